@@ -67,10 +67,6 @@ pub fn power_sum_law<F: CharZeroField>()
 
 #[cfg(test)]
 mod tests {
-    ghost use Rattle.std.specs.Prelude.{◌≡◌, ℤ, ◌+ℤ◌};
-    ghost use Rattle.field_laws.specs.Field.{whole};
-    ghost use Rattle.field_laws.specs.Rational.{rationals};
-
     use super::*;
 
     // A law at the rational numbers, by a call with no value of the field.
