@@ -10,7 +10,7 @@ use Rattle.std.proofs.lemmas.Cmp.{ranked}
 use Rattle.std.specs.declared.cmp.Ordering.{Ordering}
 use Rattle.std.specs.declared.cmp.Ordering.TheVariants.{Less, Equal, Greater}
 use Rattle.std.specs.declared.option.Option.TheVariants.{None, Some}
-use Rattle.monomial.specs.Monomials.{exponent, monomial_times, too_high, IsBelow, IsPowers, IsMonomial, Divides, each_divides, lowered, IsProductOf}
+use Rattle.monomial.specs.Monomials.{exponent, monomial_times, too_high, IsBelow, IsPowers, IsMonomial, Divides, each_divides, lowered, without, IsProductOf}
 
 -- the exponent at the first power, and at another
 pub exponent_here : (p : ℕ × ℕ) (ps : List (ℕ × ℕ)) (v : ℕ) → p.0 ≡ v → exponent (p ∷ ps) v ≡ p.1
@@ -260,3 +260,54 @@ in_range-lowered (a ∷ as') bs h = either (in_range-lowered as' bs h.1) (lowere
 
 pub IsMonomial-lowered : (xs ys : List (ℕ × ℕ)) → IsMonomial xs → IsMonomial (lowered xs ys)
 IsMonomial-lowered xs ys h = record { powers = IsPowers-lowered xs ys h.powers; in_range = in_range-lowered xs ys h.in_range }
+
+-- a monomial without a variable
+without_step : (v : ℕ) (a : ℕ × ℕ) (as' : List (ℕ × ℕ)) → ((a.0 ≡ v) × (without v (a ∷ as') ≡ without v as')) ⊎ ((a.0 ≢ v) × (without v (a ∷ as') ≡ a ∷ without v as'))
+without_step v a as' = either (eqb_tells a.0 v)
+  where
+    either : ((a.0 == v ≡ true) × (a.0 ≡ v)) ⊎ ((a.0 == v ≡ false) × (a.0 ≢ v)) → ((a.0 ≡ v) × (without v (a ∷ as') ≡ without v as')) ⊎ ((a.0 ≢ v) × (without v (a ∷ as') ≡ a ∷ without v as'))
+    either (inl (t, g)) = inl (g, ap (λ b. if b then without v as' else a ∷ without v as') t)
+    either (inr (t, n)) = inr (n, ap (λ b. if b then without v as' else a ∷ without v as') t)
+
+pub IsBelow-without : (u v : ℕ) (as' : List (ℕ × ℕ)) → IsBelow u as' → IsBelow u (without v as')
+IsBelow-without u v [] h = tt
+IsBelow-without u v (a ∷ as') h = either (IsBelow-without u v as' h.1) (without_step v a as')
+  where
+    either : IsBelow u (without v as') → ((a.0 ≡ v) × (without v (a ∷ as') ≡ without v as')) ⊎ ((a.0 ≢ v) × (without v (a ∷ as') ≡ a ∷ without v as')) → IsBelow u (without v (a ∷ as'))
+    either rest (inl (t, e)) = subst (IsBelow u) (sym e) rest
+    either rest (inr (t, e)) = subst (IsBelow u) (sym e) (h.0, rest)
+
+pub IsPowers-without : (v : ℕ) (as' : List (ℕ × ℕ)) → IsPowers as' → IsPowers (without v as')
+IsPowers-without v [] h = tt
+IsPowers-without v (a ∷ as') h = either (IsPowers-without v as' h.2) (without_step v a as')
+  where
+    either : IsPowers (without v as') → ((a.0 ≡ v) × (without v (a ∷ as') ≡ without v as')) ⊎ ((a.0 ≢ v) × (without v (a ∷ as') ≡ a ∷ without v as')) → IsPowers (without v (a ∷ as'))
+    either rest (inl (t, e)) = subst IsPowers (sym e) rest
+    either rest (inr (t, e)) = subst IsPowers (sym e) (h.0, IsBelow-without a.0 v as' h.1, rest)
+
+in_range-without : (v : ℕ) (as' : List (ℕ × ℕ)) → AllByRecursion (λ (p : ℕ × ℕ). (p.0 < 2 ^ 32) × (p.1 ≤ 65535)) as' → AllByRecursion (λ (p : ℕ × ℕ). (p.0 < 2 ^ 32) × (p.1 ≤ 65535)) (without v as')
+in_range-without v [] h = tt
+in_range-without v (a ∷ as') h = either (in_range-without v as' h.1) (without_step v a as')
+  where
+    either : AllByRecursion (λ (p : ℕ × ℕ). (p.0 < 2 ^ 32) × (p.1 ≤ 65535)) (without v as') → ((a.0 ≡ v) × (without v (a ∷ as') ≡ without v as')) ⊎ ((a.0 ≢ v) × (without v (a ∷ as') ≡ a ∷ without v as')) → AllByRecursion (λ (p : ℕ × ℕ). (p.0 < 2 ^ 32) × (p.1 ≤ 65535)) (without v (a ∷ as'))
+    either rest (inl (t, e)) = subst (AllByRecursion (λ (p : ℕ × ℕ). (p.0 < 2 ^ 32) × (p.1 ≤ 65535))) (sym e) rest
+    either rest (inr (t, e)) = subst (AllByRecursion (λ (p : ℕ × ℕ). (p.0 < 2 ^ 32) × (p.1 ≤ 65535))) (sym e) (h.0, rest)
+
+pub IsMonomial-without : (v : ℕ) (as' : List (ℕ × ℕ)) → IsMonomial as' → IsMonomial (without v as')
+IsMonomial-without v as' h = record { powers = IsPowers-without v as' h.powers; in_range = in_range-without v as' h.in_range }
+
+pub exponent-without_own : (v : ℕ) (as' : List (ℕ × ℕ)) → exponent (without v as') v ≡ 0
+exponent-without_own v [] = refl
+exponent-without_own v (a ∷ as') = either (exponent-without_own v as') (without_step v a as')
+  where
+    either : exponent (without v as') v ≡ 0 → ((a.0 ≡ v) × (without v (a ∷ as') ≡ without v as')) ⊎ ((a.0 ≢ v) × (without v (a ∷ as') ≡ a ∷ without v as')) → exponent (without v (a ∷ as')) v ≡ 0
+    either rest (inl (t, e)) = ap (λ ps. exponent ps v) e ∙ rest
+    either rest (inr (n, e)) = ap (λ ps. exponent ps v) e ∙ exponent_there a (without v as') v n ∙ rest
+
+pub exponent-without : (v w : ℕ) (as' : List (ℕ × ℕ)) → v ≢ w → exponent (without v as') w ≡ exponent as' w
+exponent-without v w [] n = refl
+exponent-without v w (a ∷ as') n = either (exponent-without v w as' n) (without_step v a as')
+  where
+    either : exponent (without v as') w ≡ exponent as' w → ((a.0 ≡ v) × (without v (a ∷ as') ≡ without v as')) ⊎ ((a.0 ≢ v) × (without v (a ∷ as') ≡ a ∷ without v as')) → exponent (without v (a ∷ as')) w ≡ exponent (a ∷ as') w
+    either rest (inl (t, e)) = ap (λ ps. exponent ps w) e ∙ rest ∙ sym (exponent_there a as' w (λ g. n (sym t ∙ g)))
+    either rest (inr (t, e)) = ap (λ ps. exponent ps w) e ∙ ap (λ n. if a.0 == w then a.1 else n) rest

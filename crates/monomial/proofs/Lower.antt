@@ -7,8 +7,8 @@ use Rattle.std.specs.Ordering.{nat_cmp, MatchOrdering, ordering_then, ordering_r
 use Rattle.std.proofs.lemmas.Cmp.{ranked}
 use Rattle.std.specs.declared.cmp.Ordering.{Ordering}
 use Rattle.std.specs.declared.cmp.Ordering.TheVariants.{Less, Equal, Greater}
-use Rattle.monomial.specs.Monomials.{exponent, monomial_times, monomial_cmp, IsBelow, IsPowers}
-use Rattle.monomial.proofs.Exponents.{exponent_here, exponent_there, exponent_above, exponent-times, IsPowers-times, IsBelow-more}
+use Rattle.monomial.specs.Monomials.{exponent, monomial_times, monomial_cmp, IsBelow, IsPowers, without}
+use Rattle.monomial.proofs.Exponents.{exponent_here, exponent_there, exponent_above, exponent-times, IsPowers-times, IsBelow-more, IsPowers-without, exponent-without, exponent-without_own}
 use Rattle.monomial.proofs.Total.{monomial_cmp-IsAntisymmetric, monomial_cmp-IsTotalOrder}
 
 -- at the greatest variable in which the exponents differ, a has the smaller one
@@ -114,3 +114,18 @@ monomial_cmp-times_back m xs ys g h i e =
       smaller = omega (arith, exponent-times m xs l.at g h, exponent-times m ys l.at g i, l.smaller);
       same = λ w k. omega (arith, exponent-times m xs w g h, exponent-times m ys w g i, l.same w k);
     })
+
+-- monomials with one exponent of v keep their order without v
+pub monomial_cmp-without : (v : ℕ) (xs ys : List (ℕ × ℕ)) → IsPowers xs → IsPowers ys → exponent xs v ≡ exponent ys v → monomial_cmp xs ys ≡ Less → monomial_cmp (without v xs) (without v ys) ≡ Less
+monomial_cmp-without v xs ys h i f e =
+    let l = IsLower-from_cmp xs ys h i e in
+    let away : v ≢ l.at = λ g. absurd (omega (arith, l.smaller, f, ap (exponent xs) g, ap (exponent ys) g)) in
+    cmp-from_IsLower _ _ (IsPowers-without v xs h) (IsPowers-without v ys i) (record {
+      at = l.at;
+      smaller = omega (arith, l.smaller, exponent-without v l.at xs away, exponent-without v l.at ys away);
+      same = λ w k. each w (l.same w k) (eqb_tells v w);
+    })
+  where
+    each : (w : ℕ) → exponent xs w ≡ exponent ys w → ((v == w ≡ true) × (v ≡ w)) ⊎ ((v == w ≡ false) × (v ≢ w)) → exponent (without v xs) w ≡ exponent (without v ys) w
+    each w s (inl (t, g)) = ap (exponent (without v xs)) (sym g) ∙ exponent-without_own v xs ∙ sym (ap (exponent (without v ys)) (sym g) ∙ exponent-without_own v ys)
+    each w s (inr (t, n)) = exponent-without v w xs n ∙ s ∙ sym (exponent-without v w ys n)

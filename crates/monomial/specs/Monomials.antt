@@ -49,6 +49,11 @@ monomial_times [] bs = bs
 monomial_times (a ∷ as') [] = a ∷ as'
 monomial_times (a ∷ as') (b ∷ bs) = by_order (nat_cmp a.0 b.0) (b ∷ monomial_times (a ∷ as') bs) ((a.0, a.1 + b.1) ∷ monomial_times as' bs) (a ∷ monomial_times as' (b ∷ bs))
 
+-- the monomial without a variable
+abbrev pub without : ℕ → List (ℕ × ℕ) → List (ℕ × ℕ)
+without v [] = []
+without v (p ∷ ps) = if p.0 == v then without v ps else p ∷ without v ps
+
 -- a divides b where no exponent of a is above that of b
 abbrev pub Divides : List (ℕ × ℕ) → List (ℕ × ℕ) → Type 0
 Divides a b = (v : ℕ) → exponent a v ≤ exponent b v

@@ -3,7 +3,7 @@
 
 ghost use Rattle.std.specs.Prelude.{◌≡◌, ◌<◌, ◌≤◌, ℕ, ◌+◌, List, [], ◌∷◌, ◌++◌, IfOk, MatchResult, IsTrue, ◌↔◌};
 ghost use Rattle.std.specs.declared.option.Option.TheVariants.{None, Some};
-ghost use Rattle.monomial.specs.Monomials.{monomial_cmp, monomial_times, exponent, top, too_high, Divides, IsMonomial, IsProductOf, IsFaultOf, each_divides, lowered};
+ghost use Rattle.monomial.specs.Monomials.{monomial_cmp, monomial_times, exponent, top, too_high, Divides, IsMonomial, IsProductOf, IsFaultOf, each_divides, lowered, without};
 
 use smallvec::SmallVec;
 use std::alloc::{AllocError, AllocFailed, Global};
@@ -135,6 +135,14 @@ impl Monomial {
         Ok(Monomial { powers })
     }
 
+    /// The monomial without a variable. It fails only where no memory is left.
+    pub fn without(&self, var: u32) -> Result<Monomial, AllocError>
+        ensures { IfOk result (λ m. m ≡ without var self.now) }
+    {
+        let powers = other_powers(*self.powers.allocator(), self.powers(), var)?;
+        Ok(Monomial { powers })
+    }
+
     /// The quotient by a divisor: the monomial whose product with it is this one. It fails only where no memory is left.
     pub fn over(&self, divisor: &Monomial) -> Result<Monomial, AllocError>
         requires { Divides divisor.now self.now }
@@ -169,6 +177,24 @@ fn divides_powers(divisor: &[(u32, u16)], powers: &[(u32, u16)]) -> bool
         }
     }
     true
+}
+
+// The powers of other variables.
+fn other_powers(
+    alloc: Global,
+    powers: &[(u32, u16)],
+    var: u32,
+) -> Result<SmallVec<(u32, u16), 6>, AllocError>
+    ensures { IfOk result (λ v. v.items ≡ without var powers.now) }
+{
+    let mut left: SmallVec<(u32, u16), 6> = SmallVec::new(alloc);
+    for power in powers {
+        let power = small(*power);
+        if power.0 != var {
+            left.push(power)?;
+        }
+    }
+    Ok(left)
 }
 
 // The powers of a quotient: each exponent less that of the divisor.
