@@ -1,0 +1,4 @@
+//! The root of a problem: all its equations as one ascending list of polynomials.
+#![tactic(auto)]
+
+mod ascending;
