@@ -7,6 +7,8 @@
 mod memory;
 mod standard;
 mod streams;
+#[cfg(test)]
+mod tests;
 mod whole;
 
 pub use memory::{MemSink, MemSource};
