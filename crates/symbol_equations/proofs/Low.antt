@@ -1,9 +1,7 @@
 -- Products of few symbols have small exponents, and sums of few products have small weights.
-use Rattle.std.specs.Prelude.{◌≡◌, ℕ, zero, suc, ◌+◌, ◌≤◌, ◌<◌, Bool, true, false, if◌then◌else◌, nat_lt, Option, Some, None, ℤ, pos, negsuc, neg_ℤ, unsigned_abs, List, [], ◌∷◌, ◌++◌, length, take, slice_index_or, All, refl}
-use Rattle.std.proofs.Common.{arith, sym as back, ◌∙◌, ap, subst, append_assoc, append-nil}
+use Rattle.std.specs.Prelude.{◌≡◌, ℕ, zero, suc, ◌+◌, ◌≤◌, ◌<◌, Bool, true, false, if◌then◌else◌, nat_lt, Option, Some, None, ℤ, pos, negsuc, neg_ℤ, unsigned_abs, List, [], ◌∷◌, ◌++◌, length, take, slice_index_or, refl}
+use Rattle.std.proofs.Common.{arith, sym as back, ◌∙◌, ap, subst, append_assoc}
 use Rattle.std.proofs.lemmas.List.{take_more, flat_map_more}
-use Rattle.std.proofs.lemmas.List.Elements.{All-contains, All-rest}
-use Rattle.label_tuples.proofs.Members.{contains_here}
 use Rattle.std.proofs.lemmas.Bool.Decides.{nat_tests}
 use Rattle.std.specs.Ordering.{nat_cmp}
 use Rattle.std.specs.FinMap.Entries.{by_order}
@@ -12,7 +10,7 @@ use Rattle.std.specs.declared.cmp.Ordering.TheVariants.{Less, Equal, Greater}
 use Rattle.monomial.specs.Monomials.{monomial_times, too_high}
 use Rattle.sparse_poly.specs.declared.Term.{Term}
 use Rattle.sparse_poly.specs.Polynomials.{is_of, coefficient, weight, products, negated}
-use Rattle.sparse_poly.specs.Contributions.{max_coeff, degree_of, higher, IsResult, IsHeaviest}
+use Rattle.sparse_poly.specs.Contributions.{max_coeff, degree_of, IsResult, IsHeaviest}
 use Rattle.sparse_poly.proofs.Evaluation.{weight-append}
 use Rattle.fusion_ring.specs.Fusion.{Fusion}
 use Rattle.symbol_index.specs.declared.Symbol.{Symbol}
@@ -91,10 +89,6 @@ IsLow-product r (s ∷ ss) (suc n) h =
     IsLowOption-mono (n + 1) (suc n) (product_monomial r (s ∷ ss)) (omega arith)
     (IsLow-standing_times (standing r s) n (product_monomial r ss) (IsLow-product r ss n (omega arith)))
 
-degree_of-optional : (c : ℤ) (n : ℕ) (o : Option (List (ℕ × ℕ))) (ts : List Term) → n ≤ 65535 → IsLowOption n o → degree_of ts ≡ None → degree_of (with_coeff c (optional_terms o) ++ ts) ≡ None
-degree_of-optional c n None ts h w e = e
-degree_of-optional c n (Some m) ts h w e = ap (λ o. higher o (degree_of ts)) (too_high-low n m h w) ∙ e
-
 -- ---- sums of products
 pub with_coeff-append : (c : ℤ) (ts us : List Term) → with_coeff c (ts ++ us) ≡ with_coeff c ts ++ with_coeff c us
 with_coeff-append c [] us = refl
@@ -166,20 +160,6 @@ collected r left right = with_coeff (pos 1) (side_terms r left) ++ with_coeff (n
 pub collected_are : (r : Fusion) (left right : List (List Symbol)) → collected r left right ≡ side_terms r left ++ negated (side_terms r right)
 collected_are r left right = ap (λ ts. ts ++ with_coeff (negsuc 0) (side_terms r right)) (one_side r left) ∙ ap (λ ts. side_terms r left ++ ts) (minus_one_side r right)
 
-degree_of-side : (r : Fusion) (c : ℤ) (side : List (List Symbol)) (ts : List Term) → All (λ ss. length ss ≤ 4) side → degree_of ts ≡ None → degree_of (with_coeff c (side_terms r side) ++ ts) ≡ None
-degree_of-side r c [] ts h e = e
-degree_of-side r c (ss ∷ side) ts h e =
-    let few : length ss ≤ 4 = All-contains (λ ss. length ss ≤ 4) (ss ∷ side) ss h (contains_here ss side) in
-    ap degree_of (ap (λ us. us ++ ts) (with_coeff-append c (product_terms r ss) (side_terms r side)) ∙ append_assoc (with_coeff c (product_terms r ss)) (with_coeff c (side_terms r side)) ts)
-    ∙ ap (λ us. degree_of (with_coeff c us ++ (with_coeff c (side_terms r side) ++ ts))) (product_terms_are r ss)
-    ∙ degree_of-optional c 4 (product_monomial r ss) (with_coeff c (side_terms r side) ++ ts) (omega arith) (IsLow-product r ss 4 few)
-    (degree_of-side r c side ts (All-rest (λ ss. length ss ≤ 4) ss side (ss ∷ side) refl h) e)
-
-pub collected_low : (r : Fusion) (left right : List (List Symbol)) → All (λ ss. length ss ≤ 4) left → All (λ ss. length ss ≤ 4) right → degree_of (collected r left right) ≡ None
-collected_low r left right h k =
-    degree_of-side r (pos 1) left (with_coeff (negsuc 0) (side_terms r right)) h
-    (ap degree_of (back (append-nil (with_coeff (negsuc 0) (side_terms r right)))) ∙ degree_of-side r (negsuc 0) right [] k refl)
-
 weight-optional : (c : ℤ) (o : Option (List (ℕ × ℕ))) (m : List (ℕ × ℕ)) → unsigned_abs c ≤ 1 → weight (with_coeff c (optional_terms o)) m ≤ 1
 weight-optional c None m h = omega arith
 weight-optional c (Some k) m h = by_test (is_of m (record { monomial = k; coeff = c }))
@@ -214,12 +194,6 @@ collected_from r left right none first both d e g = g ∙ ap (λ ts. ts ++ with_
 
 pub difference_from : (r : Fusion) (left right : List (List Symbol)) (cs p : List Term) → cs ≡ collected r left right → IsResult cs p → IsDifference r left right p
 difference_from r left right cs p e h = (h.poly, λ m. h.sums m ∙ ap (λ ts. coefficient ts m) (e ∙ collected_are r left right))
-
-pub no_degree_of : (r : Fusion) (left right : List (List Symbol)) (cs : List Term) (v : ℕ) → All (λ ss. length ss ≤ 4) left → All (λ ss. length ss ≤ 4) right → cs ≡ collected r left right → degree_of cs ≡ Some v → ⊥
-no_degree_of r left right cs v h k e t = apart (back (collected_low r left right h k) ∙ ap degree_of (back e) ∙ t)
-  where
-    apart : ◌≡◌ {A = Option ℕ} None (Some v) → ⊥
-    apart q = absurd (cc q)
 
 pub not_heavy : (r : Fusion) (left right : List (List Symbol)) (cs : List Term) (m : List (ℕ × ℕ)) → length left ≤ 1000 → length right ≤ 1000 → cs ≡ collected r left right → (degree_of cs ≡ None) × IsHeaviest cs m → ⊥
 not_heavy r left right cs m h k e t = collected_light r left right m h k (subst (λ ts. max_coeff < weight ts m) e t.1.heavy)

@@ -5,8 +5,7 @@ use Rattle.field_laws.specs.Field.{Field, IsField, IsElement, AllElements}
 use Rattle.field_laws.proofs.FieldSteps.{total_is, whole-one, same_of_difference, difference_of_same}
 use Rattle.sparse_poly.specs.declared.Term.{Term}
 use Rattle.sparse_poly.specs.Polynomials.{eval, negated}
-use Rattle.sparse_poly.proofs.Evaluation.{listed_is, eval_is, eval-append, eval-same}
-use Rattle.sparse_poly.proofs.Products.{eval-products, eval-negated}
+use Rattle.sparse_poly.proofs.Evaluation.{listed_is, eval-append, eval-same, eval-products, eval-negated}
 use Rattle.fusion_ring.specs.Fusion.{Fusion}
 use Rattle.symbol_index.specs.declared.Symbol.{Symbol}
 use Rattle.symbol_index.specs.declared.Standing.{Standing}

@@ -1,5 +1,5 @@
 -- The difference of both sides of an equation between sums of products of symbols, as a polynomial in the unknowns.
-use Rattle.std.specs.Prelude.{◌≡◌, ℕ, pos, List, [], ◌∷◌, ◌++◌, flat_map, Contains}
+use Rattle.std.specs.Prelude.{◌≡◌, pos, List, [], ◌∷◌, ◌++◌, flat_map, Contains}
 use Rattle.sparse_poly.specs.declared.Term.{Term}
 use Rattle.sparse_poly.specs.Polynomials.{products, negated, IsSum}
 use Rattle.sparse_poly.specs.Contributions.{IsPoly}

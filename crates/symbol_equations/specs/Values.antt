@@ -1,5 +1,5 @@
 -- The values of symbols, of products of symbols and of sums of such products, where the unknowns have the values x.
-use Rattle.std.specs.Prelude.{ℕ, List, [], ◌∷◌, map, slice_index_or}
+use Rattle.std.specs.Prelude.{List, [], ◌∷◌, map, slice_index_or}
 use Rattle.field_laws.specs.Field.{Field, total}
 use Rattle.fusion_ring.specs.Fusion.{Fusion}
 use Rattle.symbol_index.specs.declared.Symbol.{Symbol}

@@ -1,7 +1,7 @@
 //! From an equation between sums of products of symbols to a polynomial in the unknowns.
 #![tactic(auto)]
 
-ghost use Rattle.std.specs.Prelude.{◌≡◌, ◌≤◌, ◌↔◌, [], ◌∷◌, ◌++◌, length, All, IfOk, OnOk};
+ghost use Rattle.std.specs.Prelude.{◌≡◌, ◌≤◌, ◌↔◌, [], ◌∷◌, ◌++◌, length, IfOk, OnOk};
 ghost use Rattle.field_laws.specs.Field.{AllElements};
 ghost use Rattle.sparse_poly.specs.Polynomials.{eval};
 ghost use Rattle.symbol_equations.specs.Values.{symbol_value, side_value};
@@ -100,7 +100,7 @@ pub fn difference(
     match Poly::from_terms(alloc, terms) {
         Ok(poly) => Ok(poly),
         Err(PolyFault::OutOfMemory) => Err(AllocError),
-        // No sum of at most 2,000 products of at most four unknowns is of too high degree or heavy.
+        // At most 2,000 coefficients 1 and -1 are not heavy, and a monomial has no exponent too high.
         Err(PolyFault::Degree { .. }) => unreachable!(),
         Err(PolyFault::Heavy { .. }) => unreachable!(),
     }
@@ -113,8 +113,7 @@ fn add_side(
     coeff: i128,
     terms: &mut Vec<Term>,
 ) -> Result<(), AllocError>
-    ensures terms { OnOk result (terms.new.items ≡ terms.old.items ++ with_coeff coeff (side_terms symbols.now side.now)) }
-    ensures few { OnOk result (All (λ ss. length ss ≤ 4) side.now) }
+    ensures { OnOk result (terms.new.items ≡ terms.old.items ++ with_coeff coeff (side_terms symbols.now side.now)) }
 {
     for product in side {
         add_product(symbols, product, coeff, terms)?;
@@ -129,8 +128,7 @@ fn add_product(
     coeff: i128,
     terms: &mut Vec<Term>,
 ) -> Result<(), AllocError>
-    ensures terms { OnOk result (terms.new.items ≡ terms.old.items ++ with_coeff coeff (product_terms symbols.now product.now)) }
-    ensures few { OnOk result (length product.now ≤ 4) }
+    ensures { OnOk result (terms.new.items ≡ terms.old.items ++ with_coeff coeff (product_terms symbols.now product.now)) }
 {
     let alloc = *terms.allocator();
     if let Some(monomial) = monomial_of(alloc, symbols, product.factors())? {

@@ -1,4 +1,4 @@
-use Rattle.std.proofs.Common.{arith, sym}
+use Rattle.std.proofs.Common.{arith}
 use Rattle.symbol_equations.proofs.Low.{IsLow-of_terms}
 use Rattle.symbol_equations.proofs.+monomial_of.Goals as goal
 
