@@ -1,0 +1,144 @@
+//! The pentagon equations of a fusion ring as polynomials in its unknowns.
+#![tactic(auto)]
+
+ghost use Rattle.std.specs.Prelude.{◌≡◌, ◌≤◌, ◌↔◌, IsTrue, IfOk, All, Contains, vec_len};
+ghost use Rattle.field_laws.specs.Field.{AllElements};
+ghost use Rattle.sparse_poly.specs.Polynomials.{eval};
+ghost use Rattle.symbol_equations.specs.Values.{symbol_value};
+ghost use Rattle.symbol_equations.specs.Differences.{IsDifference};
+ghost use Rattle.pentagon_gen.specs.declared.PentagonLabels.{PentagonLabels};
+ghost use Rattle.pentagon_gen.specs.Pentagon.{is_tree, is_pentagon, is_inner, left_side, right_product, right_side, Pentagon};
+ghost use Rattle.pentagon_gen.specs.Differences.{ArePentagonDifferences};
+
+use field_laws::CharZeroField;
+use fusion_ring::Ring;
+use label_tuples::extended;
+use sparse_poly::Poly;
+use std::alloc::{AllocError, Global};
+use symbol_equations::{Product, difference, fsym};
+use symbol_index::Symbols;
+
+/// The labels at which a pentagon stands.
+#[derive(Clone, Copy)]
+pub struct PentagonLabels {
+    pub a: u8,
+    pub b: u8,
+    pub c: u8,
+    pub d: u8,
+    pub e: u8,
+    pub f: u8,
+    pub g: u8,
+    pub k: u8,
+    pub l: u8,
+}
+
+/// The difference of both sides of each pentagon of the ring, in no order that is promised. It fails
+/// only where no memory is left.
+pub fn pentagons(alloc: Global, ring: &Ring, symbols: &Symbols) -> Result<Vec<Poly>, AllocError>
+    requires { symbols.now ≡ ring.now }
+    ensures { IfOk result (λ v. ArePentagonDifferences ring.now v.items) }
+{
+    let all = pentagon_labels(alloc, ring)?;
+    let mut differences = Vec::new(alloc);
+    for at in &all {
+        differences.push(difference_at(alloc, ring, symbols, *at)?)?;
+    }
+    Ok(differences)
+}
+
+/// In every field the differences vanish exactly where the pentagons hold.
+pub fn pentagon_law<F: CharZeroField>()
+    ensures { (r x ps : _) → AllElements F.field x → ArePentagonDifferences r ps → (All (λ p. eval F.field x p ≡ F.field.zero) ps ↔ Pentagon F.field r (symbol_value F.field r x)) }
+{}
+
+// The difference of both sides of one pentagon.
+fn difference_at(
+    alloc: Global,
+    ring: &Ring,
+    symbols: &Symbols,
+    at: PentagonLabels,
+) -> Result<Poly, AllocError>
+    requires { symbols.now ≡ ring.now }
+    ensures { IfOk result (IsDifference ring.now (left_side at) (right_side ring.now at)) }
+{
+    let left = left_side(alloc, at)?;
+    let right = right_side(alloc, ring, at)?;
+    difference(alloc, symbols, &left, &right)
+}
+
+// The left side: one product.
+fn left_side(alloc: Global, at: PentagonLabels) -> Result<Vec<Product>, AllocError>
+    ensures { IfOk result (λ v. v.items ≡ left_side at) }
+{
+    let first = fsym((at.f, at.c, at.d, at.e), (at.g, at.l));
+    let second = fsym((at.a, at.b, at.l, at.e), (at.f, at.k));
+    let mut products = Vec::new(alloc);
+    products.push(Product::new(alloc, &[first, second])?)?;
+    Ok(products)
+}
+
+// The right side: one product for each inner label.
+fn right_side(alloc: Global, ring: &Ring, at: PentagonLabels) -> Result<Vec<Product>, AllocError>
+    ensures products { IfOk result (λ v. v.items ≡ right_side ring.now at) }
+    ensures few { IfOk result (λ v. vec_len v ≤ 1000) }
+{
+    let mut products = Vec::new(alloc);
+    for h in 0..ring.labels() {
+        if is_inner(ring, at, h) {
+            products.push(right_product(alloc, at, h)?)?;
+        }
+    }
+    Ok(products)
+}
+
+// The product of the right side at one inner label.
+fn right_product(alloc: Global, at: PentagonLabels, h: u8) -> Result<Product, AllocError>
+    ensures { IfOk result (λ p. p ≡ right_product at h) }
+{
+    let first = fsym((at.a, at.b, at.c, at.g), (at.f, h));
+    let second = fsym((at.a, h, at.d, at.e), (at.g, at.k));
+    let third = fsym((at.b, at.c, at.d, at.k), (h, at.l));
+    Product::new(alloc, &[first, second, third])
+}
+
+// Whether the sum runs over the label.
+fn is_inner(ring: &Ring, at: PentagonLabels, h: u8) -> bool
+    ensures { result ≡ is_inner ring.now at h }
+{
+    ring.channel(at.b, at.c, h) && ring.channel(at.a, h, at.g) && ring.channel(h, at.d, at.k)
+}
+
+// The labels of all pentagons.
+fn pentagon_labels(alloc: Global, ring: &Ring) -> Result<Vec<PentagonLabels>, AllocError>
+    ensures { IfOk result (λ v. (at : PentagonLabels) → Contains v.items at ↔ IsTrue (is_pentagon ring.now at)) }
+{
+    let n = ring.labels();
+    let found = trees(alloc, ring)?;
+    let found = extended(alloc, &found, n, |(a, b, f, c, g), d| Some((a, b, f, c, g, d)))?;
+    let found = extended(alloc, &found, n, |(a, b, f, c, g, d), e| {
+        ring.channel(g, d, e).then_some((a, b, f, c, g, d, e))
+    })?;
+    let found = extended(alloc, &found, n, |(a, b, f, c, g, d, e), l| {
+        ring.channel(c, d, l).then_some((a, b, f, c, g, d, e, l))
+    })?;
+    extended(alloc, &found, n, |(a, b, f, c, g, d, e, l), k| {
+        let is_right = ring.channel(b, l, k) && ring.channel(a, k, e);
+        is_right.then_some(PentagonLabels { a, b, c, d, e, f, g, k, l })
+    })
+}
+
+// The labels a, b, f, c, g for which f is a channel of a and b, and g one of f and c.
+fn trees(alloc: Global, ring: &Ring) -> Result<Vec<(u8, u8, u8, u8, u8)>, AllocError>
+    ensures { IfOk result (λ v. (t : _) → Contains v.items t ↔ IsTrue (is_tree ring.now t)) }
+{
+    let n = ring.labels();
+    let found = extended(alloc, &[()], n, |_, a| Some(a))?;
+    let found = extended(alloc, &found, n, |a, b| Some((a, b)))?;
+    let found = extended(alloc, &found, n, |(a, b), f| {
+        ring.channel(a, b, f).then_some((a, b, f))
+    })?;
+    let found = extended(alloc, &found, n, |(a, b, f), c| Some((a, b, f, c)))?;
+    extended(alloc, &found, n, |(a, b, f, c), g| {
+        ring.channel(f, c, g).then_some((a, b, f, c, g))
+    })
+}

@@ -1,0 +1,3 @@
+pub mod Vanishing
+pub mod Low
+pub mod Listed

@@ -1,0 +1,130 @@
+-- Lists of the differences of equations, and where all of them vanish.
+use Rattle.std.specs.Prelude.{◌≡◌, ℕ, zero, suc, ◌+◌, ◌<◌, ◌≤◌, ◌↔◌, Bool, true, false, if◌then◌else◌, List, [], ◌∷◌, ◌++◌, Contains, All, take, filter, map, length, slice_index_or, refl}
+use Rattle.std.proofs.Common.{arith, sym as back, ◌∙◌, ap, subst, ◌⊎◌, inl, inr, append-nil}
+use Rattle.std.proofs.lemmas.List.{take_more, map-append, length-map, length-append}
+use Rattle.std.proofs.lemmas.List.Elements.{All-contains, All-contains_itself, All-weaker, Contains-append_left, Contains-append_right, Contains-append_cases, filter-append}
+use Rattle.std.proofs.Math.Numerals.{add-one}
+use Rattle.label_tuples.specs.Extended.{below}
+use Rattle.label_tuples.proofs.Members.{IsListOf, none_contained, contains_here, contains_cons}
+use Rattle.field_laws.specs.Field.{Field, IsField, AllElements}
+use Rattle.sparse_poly.specs.declared.Term.{Term}
+use Rattle.sparse_poly.specs.Polynomials.{eval}
+use Rattle.fusion_ring.specs.Fusion.{Fusion}
+use Rattle.symbol_index.specs.declared.Symbol.{Symbol}
+use Rattle.symbol_equations.specs.Values.{symbol_value, side_value}
+use Rattle.symbol_equations.specs.Differences.{IsDifference, EquationAt, AreDifferences}
+use Rattle.symbol_equations.proofs.Vanishing.{vanishes}
+
+-- the same equations, named in another way
+pub same_equations : (r : Fusion) (P Q : List (List Symbol) → List (List Symbol) → Type 0) (ps : List (List Term)) →
+    ((left right : List (List Symbol)) → P left right → Q left right) → ((left right : List (List Symbol)) → Q left right → P left right) → AreDifferences r P ps → AreDifferences r Q ps
+same_equations r P Q ps to from are = record {
+  each = λ p m. let e = are.each p m in (e.0, e.1, to e.0 e.1 e.2, e.3);
+  all = λ left right q. are.all left right (from left right q);
+}
+
+-- the equations of two kinds
+pub both_kinds : (r : Fusion) (P Q : List (List Symbol) → List (List Symbol) → Type 0) (ps qs both : List (List Term)) → both ≡ ps ++ qs →
+    AreDifferences r P ps → AreDifferences r Q qs → AreDifferences r (λ left right. P left right ⊎ Q left right) both
+both_kinds r P Q ps qs both e first second = subst (λ us. AreDifferences r (λ left right. P left right ⊎ Q left right) us) (back e) record {
+  each = λ p m. elim (Contains-append_cases ps qs p m) [
+    | inl i ↦ let d = first.each p i in (d.0, d.1, inl d.2, d.3)
+    | inr i ↦ let d = second.each p i in (d.0, d.1, inr d.2, d.3)
+  ];
+  all = λ left right q. elim q [
+    | inl i ↦ let d = first.all left right i in (d.0, Contains-append_left ps qs d.0 d.1, d.2)
+    | inr i ↦ let d = second.all left right i in (d.0, Contains-append_right ps qs d.0 d.1, d.2)
+  ];
+}
+
+module _ {L : Type 0} (r : Fusion) (left_at right_at : L → List (List Symbol)) where
+  -- the differences at the labels of a list
+  abbrev pub AreDifferencesAt : List L → List (List Term) → Type 0
+  AreDifferencesAt ats ps = AreDifferences r (EquationAt (Contains ats) left_at right_at) ps
+
+  pub differences_none : AreDifferencesAt [] []
+  differences_none = record {
+    each = λ p m. absurd (none_contained p m);
+    all = λ left right e. absurd (none_contained e.0 e.1);
+  }
+
+  differences_push : (ats : List L) (at : L) (ps : List (List Term)) (p : List Term) → AreDifferencesAt ats ps → IsDifference r (left_at at) (right_at at) p → AreDifferencesAt (ats ++ at ∷ []) (ps ++ p ∷ [])
+  differences_push ats at ps p are d = record {
+    each = λ q m. elim (Contains-append_cases ps (p ∷ []) q m) [
+      | inl i ↦ let e = are.each q i in (e.0, e.1, (e.2.0, Contains-append_left ats (at ∷ []) e.2.0 e.2.1, e.2.2, e.2.3), e.3)
+      | inr i ↦ elim (contains_cons q p [] i) [
+        | inl s ↦ (left_at at, right_at at, (at, Contains-append_right ats (at ∷ []) at (contains_here at []), refl, refl), subst (λ z. IsDifference r (left_at at) (right_at at) z) s d)
+        | inr z ↦ absurd (none_contained q z)
+      ]
+    ];
+    all = λ left right e. elim (Contains-append_cases ats (at ∷ []) e.0 e.1) [
+      | inl i ↦ let o = are.all left right (e.0, i, e.2, e.3) in (o.0, Contains-append_left ps (p ∷ []) o.0 o.1, o.2)
+      | inr i ↦ elim (contains_cons e.0 at [] i) [
+        | inl s ↦ (
+          p,
+          Contains-append_right ps (p ∷ []) p (contains_here p []),
+          subst (λ z. IsDifference r z right p) (back e.2) (subst (λ z. IsDifference r (left_at e.0) z p) (back e.3) (subst (λ z. IsDifference r (left_at z) (right_at z) p) s d)),
+        )
+        | inr z ↦ absurd (none_contained e.0 z)
+      ]
+    ];
+  }
+
+  -- the step of a loop over the labels
+  pub differences_more : (all : List L) (i : ℕ) (at : L) (ps qs : List (List Term)) (p : List Term) → i < length all → at ≡ slice_index_or all i at → qs ≡ ps ++ p ∷ [] →
+      AreDifferencesAt (take i all) ps → IsDifference r (left_at at) (right_at at) p → AreDifferencesAt (take (i + 1) all) qs
+  differences_more all i at ps qs p h s e are d =
+      subst (λ ats. AreDifferencesAt ats qs) (ap (λ z. take i all ++ z ∷ []) s ∙ back (take_more all i at h))
+      (subst (λ us. AreDifferencesAt (take i all ++ at ∷ []) us) (back e) (differences_push (take i all) at ps p are d))
+
+  -- its end
+  pub differences_all : (Is : L → Type 0) (all some : List L) (ps : List (List Term)) → IsListOf all Is → some ≡ all → AreDifferencesAt some ps → AreDifferences r (EquationAt Is left_at right_at) ps
+  differences_all Is all some ps is s are =
+      same_equations r (EquationAt (Contains some) left_at right_at) (EquationAt Is left_at right_at) ps
+      (λ left right e. (e.0, (is e.0).0 (subst (λ ats. Contains ats e.0) s e.1), e.2, e.3))
+      (λ left right e. (e.0, subst (λ ats. Contains ats e.0) (back s) ((is e.0).1 e.1), e.2, e.3)) are
+
+-- ---- where all of them vanish
+module _ {E : Type 0} (f : Field E) (l : IsField f) (x : List E) (elements : AllElements f x) (r : Fusion) (IsEquation : List (List Symbol) → List (List Symbol) → Type 0) (ps : List (List Term)) (are : AreDifferences r IsEquation ps) where
+  pub all_vanish : All (λ p. eval f x p ≡ f.zero) ps ↔ ((left right : List (List Symbol)) → IsEquation left right → side_value f (symbol_value f r x) left ≡ side_value f (symbol_value f r x) right)
+  all_vanish = (
+    λ v left right e.
+        let d = are.all left right e in
+        (vanishes f l x elements r left right d.0 d.2).0 (All-contains (λ p. eval f x p ≡ f.zero) ps d.0 v d.1),
+    λ h.
+        All-weaker (Contains ps) (λ p. eval f x p ≡ f.zero)
+        (λ p m. let d = are.each p m in (vanishes f l x elements r d.0 d.1 p d.3).1 (h d.0 d.1 d.2)) ps (All-contains_itself ps),
+  )
+
+  -- for equations at labels
+  pub all_vanish_at : {L : Type 0} (Is : L → Type 0) (left_at right_at : L → List (List Symbol)) → ((left right : List (List Symbol)) → EquationAt Is left_at right_at left right → IsEquation left right) →
+      All (λ p. eval f x p ≡ f.zero) ps → (at : L) → Is at → side_value f (symbol_value f r x) (left_at at) ≡ side_value f (symbol_value f r x) (right_at at)
+  all_vanish_at Is left_at right_at to v at h = all_vanish.0 v (left_at at) (right_at at) (to (left_at at) (right_at at) (at, h, refl, refl))
+
+-- ---- the summands of a side, at the labels that pass a test
+pub summands_kept : {X : Type 0} (make : ℕ → X) (test : ℕ → Bool) (n : ℕ) (old new : List X) (u : X) → test n ≡ true → old ≡ map make (filter test (below n)) → u ≡ make n → new ≡ old ++ u ∷ [] → new ≡ map make (filter test (below (n + 1)))
+summands_kept make test n old new u t e s g =
+    g ∙ ap (λ us. us ++ u ∷ []) e ∙ ap (λ v. map make (filter test (below n)) ++ v ∷ []) s
+    ∙ back (map-append make (filter test (below n)) (n ∷ []))
+    ∙ ap (λ b. map make (filter test (below n) ++ (if b then n ∷ [] else []))) (back t)
+    ∙ ap (map make) (back (filter-append test (below n) (n ∷ [])))
+    ∙ ap (λ k. map make (filter test (below k))) (back (add-one n))
+
+pub summands_left : {X : Type 0} (make : ℕ → X) (test : ℕ → Bool) (n : ℕ) (old new : List X) → test n ≡ false → old ≡ map make (filter test (below n)) → new ≡ old → new ≡ map make (filter test (below (n + 1)))
+summands_left make test n old new t e g =
+    g ∙ e ∙ ap (map make) (back (append-nil (filter test (below n))))
+    ∙ ap (λ b. map make (filter test (below n) ++ (if b then n ∷ [] else []))) (back t)
+    ∙ ap (map make) (back (filter-append test (below n) (n ∷ [])))
+    ∙ ap (λ k. map make (filter test (below k))) (back (add-one n))
+
+-- there are no more of them than labels
+pub summands_few : {X : Type 0} (make : ℕ → X) (test : ℕ → Bool) (n : ℕ) → length (map make (filter test (below n))) ≤ n
+summands_few make test n = let e = length-map (filter test (below n)) make in let h = passing test n in omega arith
+  where
+    one_more : (b : Bool) (n : ℕ) (ns : List ℕ) → length ns ≤ n → length (ns ++ (if b then n ∷ [] else [])) ≤ suc n
+    one_more true n ns h = let e = length-append ns (n ∷ []) in omega arith
+    one_more false n ns h = let e = length-append ns [] in omega arith
+
+    passing : (test : ℕ → Bool) (n : ℕ) → length (filter test (below n)) ≤ n
+    passing test zero = omega arith
+    passing test (suc n) = subst (λ ns. length ns ≤ suc n) (back (filter-append test (below n) (n ∷ []))) (one_more (test n) n (filter test (below n)) (passing test n))

@@ -1,0 +1,3 @@
+pub mod Values
+pub mod Differences
+pub mod Contributions
