@@ -1,0 +1,3 @@
+pub mod Total
+pub mod Ordered
+pub mod Evaluation

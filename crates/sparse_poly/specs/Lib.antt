@@ -1,0 +1,6 @@
+pub mod Polynomials
+pub mod Contributions
+pub mod Order
+pub mod Primitive
+pub mod Units
+pub mod Reads
