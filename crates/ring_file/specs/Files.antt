@@ -111,14 +111,19 @@ abbrev pub first_failing : List (Place × Bool) → Option Place
 first_failing [] = None
 first_failing (c ∷ cs) = if c.1 then first_failing cs else Some c.0
 
+-- the products, from the number n on, and the gauge entries
+abbrev pub product_checks : ℕ → List Data → List (Place × Bool)
+product_checks n ds = numbered Product (λ d. is_some (triple_of d)) n ds
+
+abbrev pub entry_checks : ℕ → List Data → List (Place × Bool)
+entry_checks n ds = numbered GaugeEntry (λ d. is_some (entry_of d)) n ds
+
 -- the places of a file in their order, each with whether it has its form
 abbrev pub checks : Data → List (Place × Bool)
 checks d =
     (Top, is_some (as_object d)) ∷ (Labels, is_some (labels_of d)) ∷ (Products, is_some (products_in d))
-    ∷ (numbered Product (λ e. is_some (triple_of e)) 0 (items_or_none (products_in d))
-    ++ (Gauge, is_some (gauge_in d))
-    ∷ (numbered GaugeEntry (λ e. is_some (entry_of e)) 0 (items_or_none (gauge_in d))
-    ++ (Name, has_name_form d) ∷ (Member, has_only is_file_name d) ∷ []))
+    ∷ (product_checks 0 (items_or_none (products_in d)) ++ (Gauge, is_some (gauge_in d))
+    ∷ (entry_checks 0 (items_or_none (gauge_in d)) ++ (Name, has_name_form d) ∷ (Member, has_only is_file_name d) ∷ []))
 
 -- the fault of a form: the first place that fails, or want of memory
 abbrev pub IsShapeFault : List (Place × Bool) → ProblemFault → Type 0

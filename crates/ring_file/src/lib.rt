@@ -5,6 +5,7 @@
 //! ```
 #![tactic(auto)]
 
+mod file;
 mod problem;
 mod reader;
 mod symbols;
