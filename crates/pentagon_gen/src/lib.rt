@@ -114,7 +114,12 @@ fn pentagon_labels(alloc: Global, ring: &Ring) -> Result<Vec<PentagonLabels>, Al
 {
     let n = ring.labels();
     let found = trees(alloc, ring)?;
-    let found = extended(alloc, &found, n, |(a, b, f, c, g), d| Some((a, b, f, c, g, d)))?;
+    let found = extended(
+        alloc,
+        &found,
+        n,
+        |(a, b, f, c, g), d| Some((a, b, f, c, g, d)),
+    )?;
     let found = extended(alloc, &found, n, |(a, b, f, c, g, d), e| {
         ring.channel(g, d, e).then_some((a, b, f, c, g, d, e))
     })?;
@@ -123,7 +128,17 @@ fn pentagon_labels(alloc: Global, ring: &Ring) -> Result<Vec<PentagonLabels>, Al
     })?;
     extended(alloc, &found, n, |(a, b, f, c, g, d, e, l), k| {
         let is_right = ring.channel(b, l, k) && ring.channel(a, k, e);
-        is_right.then_some(PentagonLabels { a, b, c, d, e, f, g, k, l })
+        is_right.then_some(PentagonLabels {
+            a,
+            b,
+            c,
+            d,
+            e,
+            f,
+            g,
+            k,
+            l,
+        })
     })
 }
 
