@@ -9,10 +9,6 @@ use Rattle.symbol_index.specs.declared.Symbol.TheVariants.{Fsym}
 use Rattle.symbol_equations.specs.Values.{side_value}
 use Rattle.pentagon_gen.specs.declared.PentagonLabels.{PentagonLabels}
 
--- N(a,b,f) = N(f,c,g) = 1, for a, b, f, c and g
-abbrev pub is_tree : Fusion → ℕ × ℕ × ℕ × ℕ × ℕ → Bool
-is_tree r t = channel r t.0 t.1 t.2 && channel r t.2 t.3 t.4
-
 -- N(a,b,f) = N(f,c,g) = N(g,d,e) = N(c,d,l) = N(b,l,k) = N(a,k,e) = 1
 abbrev pub is_pentagon : Fusion → PentagonLabels → Bool
 is_pentagon r at = channel r at.a at.b at.f && channel r at.f at.c at.g && channel r at.g at.d at.e && channel r at.c at.d at.l && channel r at.b at.l at.k && channel r at.a at.k at.e

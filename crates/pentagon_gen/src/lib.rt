@@ -7,7 +7,7 @@ ghost use Rattle.sparse_poly.specs.Polynomials.{eval};
 ghost use Rattle.symbol_equations.specs.Values.{symbol_value};
 ghost use Rattle.symbol_equations.specs.Differences.{IsDifference};
 ghost use Rattle.pentagon_gen.specs.declared.PentagonLabels.{PentagonLabels};
-ghost use Rattle.pentagon_gen.specs.Pentagon.{is_tree, is_pentagon, is_inner, left_side, right_product, right_side, Pentagon};
+ghost use Rattle.pentagon_gen.specs.Pentagon.{is_pentagon, is_inner, left_side, right_product, right_side, Pentagon};
 ghost use Rattle.pentagon_gen.specs.Differences.{ArePentagonDifferences};
 
 use field_laws::CharZeroField;
@@ -15,7 +15,7 @@ use fusion_ring::Ring;
 use label_tuples::extended;
 use sparse_poly::Poly;
 use std::alloc::{AllocError, Global};
-use symbol_equations::{Product, difference, fsym};
+use symbol_equations::{Product, difference, fsym, trees};
 use symbol_index::Symbols;
 
 /// The labels at which a pentagon stands.
@@ -114,7 +114,12 @@ fn pentagon_labels(alloc: Global, ring: &Ring) -> Result<Vec<PentagonLabels>, Al
 {
     let n = ring.labels();
     let found = trees(alloc, ring)?;
-    let found = extended(alloc, &found, n, |(a, b, f, c, g), d| Some((a, b, f, c, g, d)))?;
+    let found = extended(
+        alloc,
+        &found,
+        n,
+        |(a, b, f, c, g), d| Some((a, b, f, c, g, d)),
+    )?;
     let found = extended(alloc, &found, n, |(a, b, f, c, g, d), e| {
         ring.channel(g, d, e).then_some((a, b, f, c, g, d, e))
     })?;
@@ -123,22 +128,16 @@ fn pentagon_labels(alloc: Global, ring: &Ring) -> Result<Vec<PentagonLabels>, Al
     })?;
     extended(alloc, &found, n, |(a, b, f, c, g, d, e, l), k| {
         let is_right = ring.channel(b, l, k) && ring.channel(a, k, e);
-        is_right.then_some(PentagonLabels { a, b, c, d, e, f, g, k, l })
-    })
-}
-
-// The labels a, b, f, c, g for which f is a channel of a and b, and g one of f and c.
-fn trees(alloc: Global, ring: &Ring) -> Result<Vec<(u8, u8, u8, u8, u8)>, AllocError>
-    ensures { IfOk result (λ v. (t : _) → Contains v.items t ↔ IsTrue (is_tree ring.now t)) }
-{
-    let n = ring.labels();
-    let found = extended(alloc, &[()], n, |_, a| Some(a))?;
-    let found = extended(alloc, &found, n, |a, b| Some((a, b)))?;
-    let found = extended(alloc, &found, n, |(a, b), f| {
-        ring.channel(a, b, f).then_some((a, b, f))
-    })?;
-    let found = extended(alloc, &found, n, |(a, b, f), c| Some((a, b, f, c)))?;
-    extended(alloc, &found, n, |(a, b, f, c), g| {
-        ring.channel(f, c, g).then_some((a, b, f, c, g))
+        is_right.then_some(PentagonLabels {
+            a,
+            b,
+            c,
+            d,
+            e,
+            f,
+            g,
+            k,
+            l,
+        })
     })
 }

@@ -1,3 +1,4 @@
 pub mod Vanishing
 pub mod Low
 pub mod Listed
+pub mod Stages

@@ -1,3 +1,4 @@
 pub mod Values
 pub mod Differences
 pub mod Contributions
+pub mod Trees

@@ -1,15 +1,18 @@
 //! From an equation between sums of products of symbols to a polynomial in the unknowns.
 #![tactic(auto)]
 
-ghost use Rattle.std.specs.Prelude.{◌≡◌, ◌≤◌, ◌↔◌, [], ◌∷◌, ◌++◌, length, IfOk, OnOk};
+ghost use Rattle.std.specs.Prelude.{◌≡◌, ◌≤◌, ◌↔◌, IsTrue, [], ◌∷◌, ◌++◌, length, Contains, IfOk, OnOk};
 ghost use Rattle.field_laws.specs.Field.{AllElements};
 ghost use Rattle.sparse_poly.specs.Polynomials.{eval};
 ghost use Rattle.symbol_equations.specs.Values.{symbol_value, side_value};
 ghost use Rattle.symbol_equations.specs.Differences.{product_terms, side_terms, IsDifference};
+ghost use Rattle.symbol_equations.specs.Trees.{is_tree};
 ghost use Rattle.symbol_equations.specs.Contributions.{optional_terms, with_coeff, IsLow};
 ghost use Rattle.monomial.specs.Monomials.{monomial_times};
 
 use field_laws::CharZeroField;
+use fusion_ring::Ring;
+use label_tuples::extended;
 use monomial::{MonoFault, Monomial};
 use sparse_poly::{Poly, PolyFault, Term};
 use std::alloc::{AllocError, Global};
@@ -175,3 +178,20 @@ fn times_unknown(alloc: Global, number: u32, monomial: &Monomial) -> Result<Mono
 pub fn difference_law<F: CharZeroField>()
     ensures { (r x left right p : _) → AllElements F.field x → IsDifference r left right p → ((eval F.field x p ≡ F.field.zero) ↔ (side_value F.field (symbol_value F.field r x) left ≡ side_value F.field (symbol_value F.field r x) right)) }
 {}
+
+/// The labels a, b, e, c, d for which e is a channel of a and b, and d one of e and c, in
+/// no order that is promised. It fails only where no memory is left.
+pub fn trees(alloc: Global, ring: &Ring) -> Result<Vec<(u8, u8, u8, u8, u8)>, AllocError>
+    ensures { IfOk result (λ v. (t : _) → Contains v.items t ↔ IsTrue (is_tree ring.now t)) }
+{
+    let n = ring.labels();
+    let found = extended(alloc, &[()], n, |_, a| Some(a))?;
+    let found = extended(alloc, &found, n, |a, b| Some((a, b)))?;
+    let found = extended(alloc, &found, n, |(a, b), e| {
+        ring.channel(a, b, e).then_some((a, b, e))
+    })?;
+    let found = extended(alloc, &found, n, |(a, b, e), c| Some((a, b, e, c)))?;
+    extended(alloc, &found, n, |(a, b, e, c), d| {
+        ring.channel(e, c, d).then_some((a, b, e, c, d))
+    })
+}

@@ -3,7 +3,7 @@ use Rattle.std.proofs.lemmas.Result.{IfOk-weaker}
 use Rattle.label_tuples.specs.Extended.{kept, sixes, sevens, eights}
 use Rattle.label_tuples.proofs.Members.{list_of_more}
 use Rattle.fusion_ring.specs.Fusion.{channel}
-use Rattle.pentagon_gen.specs.Pentagon.{is_tree}
+use Rattle.symbol_equations.specs.Trees.{is_tree}
 use Rattle.pentagon_gen.proofs.Stages.{nines, is_pentagon_by_stages}
 use Rattle.pentagon_gen.proofs.pentagon_labels.Goals as goal
 

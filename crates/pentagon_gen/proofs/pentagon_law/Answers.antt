@@ -12,5 +12,5 @@ returns g c r x ps elements are =
     let l = g.F.CharZeroField.laws in (
       all_vanish_at f l x elements r (IsPentagonEquation r) ps are (λ at. IsTrue (is_pentagon r at)) left_side (right_side r) (λ left right e. e),
       λ h. (all_vanish f l x elements r (IsPentagonEquation r) ps are).1
-      (λ left right e. ap (side_value f (symbol_value f r x)) e.2 ∙ h e.0 e.1 ∙ ap (side_value f (symbol_value f r x)) (sym e.3)),
+          (λ left right e. ap (side_value f (symbol_value f r x)) e.2 ∙ h e.0 e.1 ∙ ap (side_value f (symbol_value f r x)) (sym e.3)),
     )

@@ -1,4 +1,4 @@
-use Rattle.std.proofs.Common.{arith, ap, sym, ◌∙◌, subst, ◌≤◌, length}
+use Rattle.std.proofs.Common.{arith, ap, sym, ◌∙◌, length}
 use Rattle.symbol_equations.proofs.Listed.{summands_kept, summands_left, summands_few}
 use Rattle.pentagon_gen.specs.Pentagon.{is_inner, right_product}
 use Rattle.pentagon_gen.proofs.right_side.Goals as goal

@@ -3,8 +3,8 @@ use Rattle.std.proofs.lemmas.Result.{IfOk-weaker}
 use Rattle.label_tuples.specs.Extended.{kept, singles, pairs, triples, fours, fives}
 use Rattle.label_tuples.proofs.Members.{list_of_unit, list_of_more}
 use Rattle.fusion_ring.specs.Fusion.{channel}
-use Rattle.pentagon_gen.proofs.Stages.{is_tree_by_stages}
-use Rattle.pentagon_gen.proofs.trees.Goals as goal
+use Rattle.symbol_equations.proofs.Stages.{is_tree_by_stages}
+use Rattle.symbol_equations.proofs.trees.Goals as goal
 
 pub returns : goal.returns
 returns c =
