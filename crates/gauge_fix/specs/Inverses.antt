@@ -9,7 +9,7 @@ use Rattle.symbol_index.specs.declared.Symbol.{Symbol}
 use Rattle.symbol_index.specs.declared.Symbol.TheVariants.{Fsym, Ginv, Rsym, Sinv}
 use Rattle.symbol_equations.specs.Values.{side_value}
 use Rattle.symbol_equations.specs.Differences.{EquationAt, AreDifferences}
-use Rattle.gauge_fix.specs.declared.inverses.InverseLabels.{InverseLabels}
+use Rattle.gauge_fix.specs.declared.inverse.InverseLabels.{InverseLabels}
 
 -- N(a,b,e) = N(e,c,d) = 1
 abbrev pub is_row : Fusion → InverseLabels → ℕ → Bool

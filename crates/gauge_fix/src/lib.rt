@@ -2,5 +2,7 @@
 #![tactic(auto)]
 
 mod gauge;
+mod inverse;
 
 pub use gauge::{gauge_law, gauges};
+pub use inverse::{InverseLabels, inverse_law, inverses};

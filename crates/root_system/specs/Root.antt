@@ -1,5 +1,5 @@
 -- The root of a problem: all its equations as one ascending list of polynomials.
-use Rattle.std.specs.Prelude.{◌≡◌, ◌<◌, ◌≤◌, ℕ, List, ◌++◌, length, Contains}
+use Rattle.std.specs.Prelude.{◌≡◌, ◌<◌, ◌≤◌, ℕ, List, ◌++◌, length}
 use Rattle.std.specs.List.Sorted.{IsStrictlySortedBy}
 use Rattle.sparse_poly.specs.declared.Term.{Term}
 use Rattle.sparse_poly.specs.Order.{poly_cmp}
@@ -30,7 +30,7 @@ pub record AreDifferencesOf (p : Stated) (ds : List (List Term)) : Type 0 where
 pub record AreRootEquations (p : Stated) (qs : List (List Term)) : Type 0 where
   pub differences : List (List Term)
   pub are_differences : AreDifferencesOf p differences
-  pub are_parts : ArePrimitiveParts (Contains differences) qs
+  pub are_parts : ArePrimitiveParts differences qs
   pub ascending : IsStrictlySortedBy poly_cmp qs
 
 -- the root of the problem, with at most `limit` equations

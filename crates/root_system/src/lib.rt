@@ -3,3 +3,6 @@
 
 mod ascending;
 mod primitive;
+mod root;
+
+pub use root::{Root, RootFault, root_law};

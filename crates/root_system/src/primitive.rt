@@ -1,6 +1,6 @@
 //! The primitive parts of polynomials.
 
-ghost use Rattle.std.specs.Prelude.{IfOk, Contains};
+ghost use Rattle.std.specs.Prelude.{IfOk};
 ghost use Rattle.root_system.specs.PrimitiveParts.{ArePrimitiveParts};
 
 use sparse_poly::Poly;
@@ -8,7 +8,7 @@ use std::alloc::{AllocError, Global};
 
 /// The primitive part of each polynomial that is not zero.
 pub fn primitive_parts(alloc: Global, polys: &[Poly]) -> Result<Vec<Poly>, AllocError>
-    ensures { IfOk result (λ v. ArePrimitiveParts (λ p. Contains polys.now p) v.items) }
+    ensures { IfOk result (λ v. ArePrimitiveParts polys.now v.items) }
 {
     let mut parts = Vec::new(alloc);
     for poly in polys {

@@ -9,11 +9,11 @@ ghost use Rattle.root_system.specs.Solution.{Solution};
 use crate::ascending::ascending;
 use crate::primitive::primitive_parts;
 use field_laws::CharZeroField;
-use gauge_fix::{gauges, inverses};
-use hexagon_gen::hexagons;
-use pentagon_gen::pentagons;
+use gauge_fix::{gauge_law, gauges, inverse_law, inverses};
+use hexagon_gen::{hexagon_law, hexagons};
+use pentagon_gen::{pentagon_law, pentagons};
 use ring_file::Problem;
-use sparse_poly::Poly;
+use sparse_poly::{Poly, primitive_law};
 use std::alloc::{AllocError, Global};
 use std::marker::Model;
 use symbol_index::{SymbolFault, Symbols};
@@ -118,7 +118,13 @@ impl Root {
 /// In every field the root vanishes exactly at the solutions.
 pub fn root_law<F: CharZeroField>()
     ensures { (p x qs : _) → AllElements F.field x → AreRootEquations p qs → (All (λ q. eval F.field x q ≡ F.field.zero) qs ↔ Solution F.field p x) }
-{}
+{
+    pentagon_law::<F>();
+    hexagon_law::<F>();
+    inverse_law::<F>();
+    gauge_law::<F>();
+    primitive_law::<F>();
+}
 
 // The root equations of a problem.
 fn root_equations(
