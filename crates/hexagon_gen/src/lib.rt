@@ -42,8 +42,18 @@ pub fn hexagons(alloc: Global, ring: &Ring, symbols: &Symbols) -> Result<Vec<Pol
     ensures { IfOk result (λ v. AreHexagonDifferences ring.now v.items) }
 {
     let all = hexagon_labels(alloc, ring)?;
-    let mut found = differences(alloc, symbols, &all, |at| sides(alloc, ring, Hexagon::First, at))?;
-    let mut second = differences(alloc, symbols, &all, |at| sides(alloc, ring, Hexagon::Second, at))?;
+    let mut found = differences(
+        alloc,
+        symbols,
+        &all,
+        |at| sides(alloc, ring, Hexagon::First, at),
+    )?;
+    let mut second = differences(
+        alloc,
+        symbols,
+        &all,
+        |at| sides(alloc, ring, Hexagon::Second, at),
+    )?;
     found.append(&mut second)?;
     Ok(found)
 }
