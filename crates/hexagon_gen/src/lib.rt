@@ -5,17 +5,16 @@ ghost use Rattle.std.specs.Prelude.{◌≡◌, ◌≤◌, ◌↔◌, IsTrue, IfO
 ghost use Rattle.field_laws.specs.Field.{AllElements};
 ghost use Rattle.sparse_poly.specs.Polynomials.{eval};
 ghost use Rattle.symbol_equations.specs.Values.{symbol_value};
-ghost use Rattle.symbol_equations.specs.Differences.{IsDifference, AreDifferences};
 ghost use Rattle.hexagon_gen.specs.declared.HexagonLabels.{HexagonLabels};
 ghost use Rattle.hexagon_gen.specs.Hexagons.{braiding, is_hexagon, is_inner, left_side, right_product, right_side, Hexagons};
-ghost use Rattle.hexagon_gen.specs.Differences.{IsEquationOf, AreHexagonDifferences};
+ghost use Rattle.hexagon_gen.specs.Differences.{AreHexagonDifferences};
 
 use field_laws::CharZeroField;
 use fusion_ring::Ring;
 use label_tuples::extended;
 use sparse_poly::Poly;
 use std::alloc::{AllocError, Global};
-use symbol_equations::{Product, difference, fsym, trees};
+use symbol_equations::{Product, Sides, differences, fsym, trees};
 use symbol_index::{Symbol, Symbols};
 
 /// The labels at which both hexagons stand.
@@ -42,10 +41,21 @@ pub fn hexagons(alloc: Global, ring: &Ring, symbols: &Symbols) -> Result<Vec<Pol
     requires { symbols.now ≡ ring.now }
     ensures { IfOk result (λ v. AreHexagonDifferences ring.now v.items) }
 {
-    let mut differences = hexagons_of(alloc, ring, symbols, Hexagon::First)?;
-    let mut second = hexagons_of(alloc, ring, symbols, Hexagon::Second)?;
-    differences.append(&mut second)?;
-    Ok(differences)
+    let all = hexagon_labels(alloc, ring)?;
+    let mut found = differences(
+        alloc,
+        symbols,
+        &all,
+        |at| sides(alloc, ring, Hexagon::First, at),
+    )?;
+    let mut second = differences(
+        alloc,
+        symbols,
+        &all,
+        |at| sides(alloc, ring, Hexagon::Second, at),
+    )?;
+    found.append(&mut second)?;
+    Ok(found)
 }
 
 /// In every field the differences vanish exactly where the hexagons hold.
@@ -53,38 +63,18 @@ pub fn hexagon_law<F: CharZeroField>()
     ensures { (r x ps : _) → AllElements F.field x → AreHexagonDifferences r ps → (All (λ p. eval F.field x p ≡ F.field.zero) ps ↔ Hexagons F.field r (symbol_value F.field r x)) }
 {}
 
-// The differences of both sides of the hexagons of one kind.
-fn hexagons_of(
+// Both sides of one hexagon.
+fn sides(
     alloc: Global,
     ring: &Ring,
-    symbols: &Symbols,
-    hexagon: Hexagon,
-) -> Result<Vec<Poly>, AllocError>
-    requires { symbols.now ≡ ring.now }
-    ensures { IfOk result (λ v. AreDifferences ring.now (IsEquationOf ring.now hexagon) v.items) }
-{
-    let all = hexagon_labels(alloc, ring)?;
-    let mut differences = Vec::new(alloc);
-    for at in &all {
-        differences.push(difference_at(alloc, ring, symbols, hexagon, *at)?)?;
-    }
-    Ok(differences)
-}
-
-// The difference of both sides of one hexagon.
-fn difference_at(
-    alloc: Global,
-    ring: &Ring,
-    symbols: &Symbols,
     hexagon: Hexagon,
     at: HexagonLabels,
-) -> Result<Poly, AllocError>
-    requires { symbols.now ≡ ring.now }
-    ensures { IfOk result (IsDifference ring.now (left_side hexagon at) (right_side ring.now hexagon at)) }
+) -> Result<Sides, AllocError>
+    ensures { IfOk result (λ s. s ≡ (left_side hexagon at, right_side ring.now hexagon at)) }
 {
     let left = left_side(alloc, hexagon, at)?;
     let right = right_side(alloc, ring, hexagon, at)?;
-    difference(alloc, symbols, &left, &right)
+    Ok(Sides::new(left, right))
 }
 
 // The left side: one product.

@@ -5,7 +5,6 @@ ghost use Rattle.std.specs.Prelude.{◌≡◌, ◌≤◌, ◌↔◌, IsTrue, IfO
 ghost use Rattle.field_laws.specs.Field.{AllElements};
 ghost use Rattle.sparse_poly.specs.Polynomials.{eval};
 ghost use Rattle.symbol_equations.specs.Values.{symbol_value};
-ghost use Rattle.symbol_equations.specs.Differences.{IsDifference};
 ghost use Rattle.pentagon_gen.specs.declared.PentagonLabels.{PentagonLabels};
 ghost use Rattle.pentagon_gen.specs.Pentagon.{is_pentagon, is_inner, left_side, right_product, right_side, Pentagon};
 ghost use Rattle.pentagon_gen.specs.Differences.{ArePentagonDifferences};
@@ -15,7 +14,7 @@ use fusion_ring::Ring;
 use label_tuples::extended;
 use sparse_poly::Poly;
 use std::alloc::{AllocError, Global};
-use symbol_equations::{Product, difference, fsym, trees};
+use symbol_equations::{Product, Sides, differences, fsym, trees};
 use symbol_index::Symbols;
 
 /// The labels at which a pentagon stands.
@@ -39,11 +38,7 @@ pub fn pentagons(alloc: Global, ring: &Ring, symbols: &Symbols) -> Result<Vec<Po
     ensures { IfOk result (λ v. ArePentagonDifferences ring.now v.items) }
 {
     let all = pentagon_labels(alloc, ring)?;
-    let mut differences = Vec::new(alloc);
-    for at in &all {
-        differences.push(difference_at(alloc, ring, symbols, *at)?)?;
-    }
-    Ok(differences)
+    differences(alloc, symbols, &all, |at| sides(alloc, ring, at))
 }
 
 /// In every field the differences vanish exactly where the pentagons hold.
@@ -51,19 +46,13 @@ pub fn pentagon_law<F: CharZeroField>()
     ensures { (r x ps : _) → AllElements F.field x → ArePentagonDifferences r ps → (All (λ p. eval F.field x p ≡ F.field.zero) ps ↔ Pentagon F.field r (symbol_value F.field r x)) }
 {}
 
-// The difference of both sides of one pentagon.
-fn difference_at(
-    alloc: Global,
-    ring: &Ring,
-    symbols: &Symbols,
-    at: PentagonLabels,
-) -> Result<Poly, AllocError>
-    requires { symbols.now ≡ ring.now }
-    ensures { IfOk result (IsDifference ring.now (left_side at) (right_side ring.now at)) }
+// Both sides of one pentagon.
+fn sides(alloc: Global, ring: &Ring, at: PentagonLabels) -> Result<Sides, AllocError>
+    ensures { IfOk result (λ s. s ≡ (left_side at, right_side ring.now at)) }
 {
     let left = left_side(alloc, at)?;
     let right = right_side(alloc, ring, at)?;
-    difference(alloc, symbols, &left, &right)
+    Ok(Sides::new(left, right))
 }
 
 // The left side: one product.

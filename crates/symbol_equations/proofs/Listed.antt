@@ -1,9 +1,10 @@
 -- Lists of the differences of equations, and where all of them vanish.
-use Rattle.std.specs.Prelude.{◌≡◌, ℕ, zero, suc, ◌+◌, ◌<◌, ◌≤◌, ◌↔◌, Bool, true, false, if◌then◌else◌, List, [], ◌∷◌, ◌++◌, Contains, All, take, filter, map, length, slice_index_or, refl}
+use Rattle.std.specs.Prelude.{Result, ◌≡◌, ℕ, zero, suc, ◌+◌, ◌<◌, ◌≤◌, ◌↔◌, Bool, true, false, if◌then◌else◌, List, [], ◌∷◌, ◌++◌, Contains, All, take, filter, map, length, slice_index_or, refl}
 use Rattle.std.proofs.Common.{arith, sym as back, ◌∙◌, ap, subst, ◌⊎◌, inl, inr, append-nil}
 use Rattle.std.proofs.lemmas.List.{take_more, map-append, length-map, length-append}
 use Rattle.std.proofs.lemmas.List.Elements.{All-contains, All-contains_itself, All-weaker, Contains-append_left, Contains-append_right, Contains-append_cases, filter-append}
 use Rattle.std.proofs.Math.Numerals.{add-one}
+use Rattle.std.specs.declared.alloc.AllocError.{AllocError}
 use Rattle.label_tuples.specs.Extended.{below}
 use Rattle.label_tuples.proofs.Members.{IsListOf, none_contained, contains_here, contains_cons}
 use Rattle.field_laws.specs.Field.{Field, IsField, AllElements}
@@ -12,7 +13,7 @@ use Rattle.sparse_poly.specs.Polynomials.{eval}
 use Rattle.fusion_ring.specs.Fusion.{Fusion}
 use Rattle.symbol_index.specs.declared.Symbol.{Symbol}
 use Rattle.symbol_equations.specs.Values.{symbol_value, side_value}
-use Rattle.symbol_equations.specs.Differences.{IsDifference, EquationAt, AreDifferences}
+use Rattle.symbol_equations.specs.Differences.{IsDifference, EquationAt, AreDifferences, MakesSides, AreTheirDifferences}
 use Rattle.symbol_equations.proofs.Vanishing.{vanishes}
 
 -- the same equations, named in another way
@@ -128,3 +129,17 @@ summands_few make test n = let e = length-map (filter test (below n)) make in le
     passing : (test : ℕ → Bool) (n : ℕ) → length (filter test (below n)) ≤ n
     passing test zero = omega arith
     passing test (suc n) = subst (λ ns. length ns ≤ suc n) (back (filter-append test (below n) (n ∷ []))) (one_more (test n) n (filter test (below n)) (passing test n))
+
+-- the difference of the sides that were made
+pub difference_of_sides : (r : Fusion) (left right inside_left inside_right at_left at_right : List (List Symbol)) (made : List (List Symbol) × List (List Symbol)) (p : List Term) →
+    left ≡ inside_left → right ≡ inside_right → ◌≡◌ {A = List (List Symbol) × List (List Symbol)} (inside_left, inside_right) made → made ≡ (at_left, at_right) → IsDifference r left right p → IsDifference r at_left at_right p
+difference_of_sides r left right inside_left inside_right at_left at_right made p e g h k d =
+    let same : ◌≡◌ {A = List (List Symbol) × List (List Symbol)} (inside_left, inside_right) (at_left, at_right) = h ∙ k in
+    subst (λ l. IsDifference r l at_right p) (e ∙ ap (λ (s : List (List Symbol) × List (List Symbol)). s.0) same)
+    (subst (λ l. IsDifference r left l p) (g ∙ ap (λ (s : List (List Symbol) × List (List Symbol)). s.1) same) d)
+
+-- what a call of `differences` found at the labels of a list
+pub differences_found : {L : Type 0} (r s : Fusion) (answers : L → Result (List (List Symbol) × List (List Symbol)) AllocError → Type 0) (Is : L → Type 0) (left_at right_at : L → List (List Symbol)) (all labels : List L) (ps : List (List Term)) →
+    s ≡ r → IsListOf all Is → labels ≡ all → MakesSides answers left_at right_at → AreTheirDifferences s answers labels ps → AreDifferences r (EquationAt Is left_at right_at) ps
+differences_found r s answers Is left_at right_at all labels ps same is e made found =
+    differences_all r left_at right_at Is all labels ps is e (subst (λ t. AreDifferences t (EquationAt (Contains labels) left_at right_at) ps) same (found left_at right_at made))

@@ -1,5 +1,6 @@
 -- The difference of both sides of an equation between sums of products of symbols, as a polynomial in the unknowns.
-use Rattle.std.specs.Prelude.{◌≡◌, pos, List, [], ◌∷◌, ◌++◌, flat_map, Contains}
+use Rattle.std.specs.Prelude.{◌≡◌, Result, IfOk, pos, List, [], ◌∷◌, ◌++◌, flat_map, Contains}
+use Rattle.std.specs.declared.alloc.AllocError.{AllocError}
 use Rattle.sparse_poly.specs.declared.Term.{Term}
 use Rattle.sparse_poly.specs.Polynomials.{products, negated, IsSum}
 use Rattle.sparse_poly.specs.Contributions.{IsPoly}
@@ -43,3 +44,11 @@ EquationAt {L} Is left_at right_at left right = (at : L) × Is at × (left ≡ l
 pub record AreDifferences (r : Fusion) (IsEquation : List (List Symbol) → List (List Symbol) → Type 0) (ps : List (List Term)) : Type 0 where
   pub each : (p : List Term) → Contains ps p → (left : List (List Symbol)) × (right : List (List Symbol)) × IsEquation left right × IsDifference r left right p
   pub all : (left right : List (List Symbol)) → IsEquation left right → (p : List Term) × Contains ps p × IsDifference r left right p
+
+-- where the answers at a label are its sides
+abbrev pub MakesSides : {L : Type 0} → (L → Result (List (List Symbol) × List (List Symbol)) AllocError → Type 0) → (L → List (List Symbol)) → (L → List (List Symbol)) → Type 0
+MakesSides {L} answers left_at right_at = (at : L) (o : Result (List (List Symbol) × List (List Symbol)) AllocError) → answers at o → IfOk o (λ s. s ≡ (left_at at, right_at at))
+
+-- the polynomials are the differences of the equations at these labels, whose sides the answers are
+abbrev pub AreTheirDifferences : {L : Type 0} → Fusion → (L → Result (List (List Symbol) × List (List Symbol)) AllocError → Type 0) → List L → List (List Term) → Type 0
+AreTheirDifferences {L} r answers ats ps = (left_at right_at : L → List (List Symbol)) → MakesSides answers left_at right_at → AreDifferences r (EquationAt (Contains ats) left_at right_at) ps

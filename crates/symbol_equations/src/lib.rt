@@ -1,11 +1,11 @@
 //! From an equation between sums of products of symbols to a polynomial in the unknowns.
 #![tactic(auto)]
 
-ghost use Rattle.std.specs.Prelude.{◌≡◌, ◌≤◌, ◌↔◌, IsTrue, [], ◌∷◌, ◌++◌, length, Contains, IfOk, OnOk};
+ghost use Rattle.std.specs.Prelude.{◌≡◌, ◌≤◌, ◌↔◌, IsTrue, [], ◌∷◌, ◌++◌, length, Contains, IfOk, OnOk, vec_len};
 ghost use Rattle.field_laws.specs.Field.{AllElements};
 ghost use Rattle.sparse_poly.specs.Polynomials.{eval};
 ghost use Rattle.symbol_equations.specs.Values.{symbol_value, side_value};
-ghost use Rattle.symbol_equations.specs.Differences.{product_terms, side_terms, IsDifference};
+ghost use Rattle.symbol_equations.specs.Differences.{product_terms, side_terms, IsDifference, AreTheirDifferences};
 ghost use Rattle.symbol_equations.specs.Trees.{is_tree};
 ghost use Rattle.symbol_equations.specs.Contributions.{optional_terms, with_coeff, IsLow};
 ghost use Rattle.monomial.specs.Monomials.{monomial_times};
@@ -53,6 +53,36 @@ impl Product {
         ensures few { length self.now ≤ 4 }
     {
         self.factors.as_slice()
+    }
+}
+
+/// Both sides of an equation, seen as the pair of the lists of their products. The value of a side is
+/// the sum of its products.
+#[derive(Drop)]
+pub struct Sides {
+    left: Vec<Product>,
+    right: Vec<Product>,
+}
+
+impl Model for Sides {
+    ghost use Rattle.std.specs.Prelude.{List, ◌≤◌, vec_len};
+    ghost use Rattle.symbol_index.specs.declared.Symbol.{Symbol};
+
+    ghost Value = { List (List Symbol) × List (List Symbol) };
+
+    ghost view = { λ s. (s.left.items, s.right.items) };
+
+    ghost invariant = { λ s. (vec_len s.left ≤ 1000) × (vec_len s.right ≤ 1000) };
+}
+
+impl Sides {
+    /// The equation of these sides, which are short.
+    pub fn new(left: Vec<Product>, right: Vec<Product>) -> Sides
+        requires few_left { vec_len left ≤ 1000 }
+        requires few_right { vec_len right ≤ 1000 }
+        ensures { result ≡ (left.items, right.items) }
+    {
+        Sides { left, right }
     }
 }
 
@@ -172,6 +202,25 @@ fn times_unknown(alloc: Global, number: u32, monomial: &Monomial) -> Result<Mono
         Err(MonoFault::OutOfMemory) => Err(AllocError),
         Err(MonoFault::Degree { .. }) => unreachable!(),
     }
+}
+
+/// The difference of both sides of each equation: `sides` makes the sides at each of the labels. It
+/// fails only where no memory is left.
+pub fn differences<L: Copy, F: Fn(L) -> Result<Sides, AllocError>>(
+    alloc: Global,
+    symbols: &Symbols,
+    labels: &[L],
+    sides: F,
+) -> Result<Vec<Poly>, AllocError>
+    requires { F.IsAlwaysCallable sides }
+    ensures { IfOk result (λ v. AreTheirDifferences symbols.now (F.post sides) labels.now v.items) }
+{
+    let mut found = Vec::new(alloc);
+    for at in labels {
+        let equation = sides(*at)?;
+        found.push(difference(alloc, symbols, &equation.left, &equation.right)?)?;
+    }
+    Ok(found)
 }
 
 /// In every field the difference vanishes exactly where both sides have one value.

@@ -1,16 +1,13 @@
 use Rattle.std.specs.Prelude.{IsTrue}
-use Rattle.std.proofs.Common.{arith, ◌∙◌, take_all}
-use Rattle.std.proofs.lemmas.List.{get_or_default}
-use Rattle.symbol_equations.proofs.Listed.{differences_more, differences_all}
+use Rattle.std.proofs.Common.{rules}
+use Rattle.std.proofs.lemmas.Result.{IfOk-weaker}
+use Rattle.symbol_equations.proofs.Listed.{differences_found}
 use Rattle.pentagon_gen.specs.Pentagon.{is_pentagon, left_side, right_side}
 use Rattle.pentagon_gen.proofs.pentagons.Goals as goal
 
-pub loop-at-preserved : goal.loop-at-preserved
-loop-at-preserved c =
-    differences_more c.args.ring.now left_side (right_side c.args.ring.now) c.deref-at-items.result.now c.loop-at.at-index _ c.loop-at.differences.items c.push.new.self.items c.in_ok-difference_at.field-0
-    (omega arith) (get_or_default c.deref-at-items.result.now c.loop-at.at-index _ _ (omega arith)) c.in_ok-push.ensures.items c.loop-at.invariant c.in_ok-difference_at.ensures
-
 pub returns : goal.returns
 returns c =
-    differences_all c.args.ring.now left_side (right_side c.args.ring.now) (λ at. IsTrue (is_pentagon c.args.ring.now at)) c.in_ok-all.all.items _ c.loop-at.differences.items c.in_ok-all.ensures
-    (take_all c.loop-at.at-index c.deref-at-items.result.now (omega arith) ∙ c.deref-at-items.ensures.value) c.loop-at.invariant
+    let r = c.args.ring.now in
+    IfOk-weaker c.differences.result _ _
+    (λ v found. differences_found r c.args.symbols.now _ (λ at. IsTrue (is_pentagon r at)) left_side (right_side r) c.in_ok-all.all.items c.deref.result.now v.items c.requires c.in_ok-all.ensures c.deref.ensures.value (λ at o h. search rules) found)
+    c.differences.ensures
