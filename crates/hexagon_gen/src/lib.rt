@@ -1,7 +1,7 @@
 //! The hexagon equations of a fusion ring as polynomials in its unknowns.
 #![tactic(auto)]
 
-ghost use Rattle.std.specs.Prelude.{◌≡◌, ◌≤◌, ◌↔◌, IsTrue, IfOk, All, Contains, vec_len};
+ghost use Rattle.std.specs.Prelude.{◌≡◌, ◌≤◌, ◌↔◌, IsTrue, if◌then◌else◌, IfOk, All, Contains, vec_len};
 ghost use Rattle.field_laws.specs.Field.{AllElements};
 ghost use Rattle.sparse_poly.specs.Polynomials.{eval};
 ghost use Rattle.symbol_equations.specs.Values.{symbol_value};
@@ -14,7 +14,7 @@ use fusion_ring::Ring;
 use label_tuples::extended;
 use sparse_poly::Poly;
 use std::alloc::{AllocError, Global};
-use symbol_equations::{Product, Sides, differences, fsym, trees};
+use symbol_equations::{Product, Sides, differences, fsym, summands, trees};
 use symbol_index::{Symbol, Symbols};
 
 /// The labels at which both hexagons stand.
@@ -99,28 +99,30 @@ fn right_side(
     ensures products { IfOk result (λ v. v.items ≡ right_side ring.now hexagon at) }
     ensures few { IfOk result (λ v. vec_len v ≤ 1000) }
 {
-    let mut products = Vec::new(alloc);
-    for f in 0..ring.labels() {
-        if is_inner(ring, at, f) {
-            products.push(right_product(alloc, hexagon, at, f)?)?;
-        }
-    }
-    Ok(products)
+    summands(
+        alloc,
+        ring.labels(),
+        |f| right_product(alloc, ring, hexagon, at, f),
+    )
 }
 
-// The product of the right side at one inner label.
+// The product of the right side at one label, if the sum runs over it.
 fn right_product(
     alloc: Global,
+    ring: &Ring,
     hexagon: Hexagon,
     at: HexagonLabels,
     f: u8,
-) -> Result<Product, AllocError>
-    ensures { IfOk result (λ p. p ≡ right_product hexagon at f) }
+) -> Result<Option<Product>, AllocError>
+    ensures { IfOk result (λ o. o ≡ (if is_inner ring.now at f then Some (right_product hexagon at f) else None)) }
 {
+    if !is_inner(ring, at, f) {
+        return Ok(None);
+    }
     let first = fsym((at.c, at.a, at.b, at.d), (at.e, f));
     let second = braiding(hexagon, at, f, at.d);
     let third = fsym((at.a, at.b, at.c, at.d), (f, at.g));
-    Product::new(alloc, &[first, second, third])
+    Ok(Some(Product::new(alloc, &[first, second, third])?))
 }
 
 // The symbol of c and x with the channel y, or the inverse one of x and c.

@@ -1,7 +1,7 @@
 //! The pentagon equations of a fusion ring as polynomials in its unknowns.
 #![tactic(auto)]
 
-ghost use Rattle.std.specs.Prelude.{◌≡◌, ◌≤◌, ◌↔◌, IsTrue, IfOk, All, Contains, vec_len};
+ghost use Rattle.std.specs.Prelude.{◌≡◌, ◌≤◌, ◌↔◌, IsTrue, if◌then◌else◌, IfOk, All, Contains, vec_len};
 ghost use Rattle.field_laws.specs.Field.{AllElements};
 ghost use Rattle.sparse_poly.specs.Polynomials.{eval};
 ghost use Rattle.symbol_equations.specs.Values.{symbol_value};
@@ -14,7 +14,7 @@ use fusion_ring::Ring;
 use label_tuples::extended;
 use sparse_poly::Poly;
 use std::alloc::{AllocError, Global};
-use symbol_equations::{Product, Sides, differences, fsym, trees};
+use symbol_equations::{Product, Sides, differences, fsym, summands, trees};
 use symbol_index::Symbols;
 
 /// The labels at which a pentagon stands.
@@ -71,23 +71,25 @@ fn right_side(alloc: Global, ring: &Ring, at: PentagonLabels) -> Result<Vec<Prod
     ensures products { IfOk result (λ v. v.items ≡ right_side ring.now at) }
     ensures few { IfOk result (λ v. vec_len v ≤ 1000) }
 {
-    let mut products = Vec::new(alloc);
-    for h in 0..ring.labels() {
-        if is_inner(ring, at, h) {
-            products.push(right_product(alloc, at, h)?)?;
-        }
-    }
-    Ok(products)
+    summands(alloc, ring.labels(), |h| right_product(alloc, ring, at, h))
 }
 
-// The product of the right side at one inner label.
-fn right_product(alloc: Global, at: PentagonLabels, h: u8) -> Result<Product, AllocError>
-    ensures { IfOk result (λ p. p ≡ right_product at h) }
+// The product of the right side at one label, if the sum runs over it.
+fn right_product(
+    alloc: Global,
+    ring: &Ring,
+    at: PentagonLabels,
+    h: u8,
+) -> Result<Option<Product>, AllocError>
+    ensures { IfOk result (λ o. o ≡ (if is_inner ring.now at h then Some (right_product at h) else None)) }
 {
+    if !is_inner(ring, at, h) {
+        return Ok(None);
+    }
     let first = fsym((at.a, at.b, at.c, at.g), (at.f, h));
     let second = fsym((at.a, h, at.d, at.e), (at.g, at.k));
     let third = fsym((at.b, at.c, at.d, at.k), (h, at.l));
-    Product::new(alloc, &[first, second, third])
+    Ok(Some(Product::new(alloc, &[first, second, third])?))
 }
 
 // Whether the sum runs over the label.

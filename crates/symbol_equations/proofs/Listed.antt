@@ -1,11 +1,9 @@
 -- Lists of the differences of equations, and where all of them vanish.
-use Rattle.std.specs.Prelude.{Result, ◌≡◌, ℕ, zero, suc, ◌+◌, ◌<◌, ◌≤◌, ◌↔◌, Bool, true, false, if◌then◌else◌, List, [], ◌∷◌, ◌++◌, Contains, All, take, filter, map, length, slice_index_or, refl}
-use Rattle.std.proofs.Common.{arith, sym as back, ◌∙◌, ap, subst, ◌⊎◌, inl, inr, append-nil}
-use Rattle.std.proofs.lemmas.List.{take_more, map-append, length-map, length-append}
-use Rattle.std.proofs.lemmas.List.Elements.{All-contains, All-contains_itself, All-weaker, Contains-append_left, Contains-append_right, Contains-append_cases, filter-append}
-use Rattle.std.proofs.Math.Numerals.{add-one}
+use Rattle.std.specs.Prelude.{Result, ◌≡◌, ℕ, ◌+◌, ◌<◌, ◌↔◌, List, [], ◌∷◌, ◌++◌, Contains, All, take, length, slice_index_or, refl}
+use Rattle.std.proofs.Common.{sym as back, ◌∙◌, ap, subst, ◌⊎◌, inl, inr}
+use Rattle.std.proofs.lemmas.List.{take_more}
+use Rattle.std.proofs.lemmas.List.Elements.{All-contains, All-contains_itself, All-weaker, Contains-append_left, Contains-append_right, Contains-append_cases}
 use Rattle.std.specs.declared.alloc.AllocError.{AllocError}
-use Rattle.label_tuples.specs.Extended.{below}
 use Rattle.label_tuples.proofs.Members.{IsListOf, none_contained, contains_here, contains_cons}
 use Rattle.field_laws.specs.Field.{Field, IsField, AllElements}
 use Rattle.sparse_poly.specs.declared.Term.{Term}
@@ -101,34 +99,6 @@ module _ {E : Type 0} (f : Field E) (l : IsField f) (x : List E) (elements : All
   pub all_vanish_at : {L : Type 0} (Is : L → Type 0) (left_at right_at : L → List (List Symbol)) → ((left right : List (List Symbol)) → EquationAt Is left_at right_at left right → IsEquation left right) →
       All (λ p. eval f x p ≡ f.zero) ps → (at : L) → Is at → side_value f (symbol_value f r x) (left_at at) ≡ side_value f (symbol_value f r x) (right_at at)
   all_vanish_at Is left_at right_at to v at h = all_vanish.0 v (left_at at) (right_at at) (to (left_at at) (right_at at) (at, h, refl, refl))
-
--- ---- the summands of a side, at the labels that pass a test
-pub summands_kept : {X : Type 0} (make : ℕ → X) (test : ℕ → Bool) (n : ℕ) (old new : List X) (u : X) → test n ≡ true → old ≡ map make (filter test (below n)) → u ≡ make n → new ≡ old ++ u ∷ [] → new ≡ map make (filter test (below (n + 1)))
-summands_kept make test n old new u t e s g =
-    g ∙ ap (λ us. us ++ u ∷ []) e ∙ ap (λ v. map make (filter test (below n)) ++ v ∷ []) s
-    ∙ back (map-append make (filter test (below n)) (n ∷ []))
-    ∙ ap (λ b. map make (filter test (below n) ++ (if b then n ∷ [] else []))) (back t)
-    ∙ ap (map make) (back (filter-append test (below n) (n ∷ [])))
-    ∙ ap (λ k. map make (filter test (below k))) (back (add-one n))
-
-pub summands_left : {X : Type 0} (make : ℕ → X) (test : ℕ → Bool) (n : ℕ) (old new : List X) → test n ≡ false → old ≡ map make (filter test (below n)) → new ≡ old → new ≡ map make (filter test (below (n + 1)))
-summands_left make test n old new t e g =
-    g ∙ e ∙ ap (map make) (back (append-nil (filter test (below n))))
-    ∙ ap (λ b. map make (filter test (below n) ++ (if b then n ∷ [] else []))) (back t)
-    ∙ ap (map make) (back (filter-append test (below n) (n ∷ [])))
-    ∙ ap (λ k. map make (filter test (below k))) (back (add-one n))
-
--- there are no more of them than labels
-pub summands_few : {X : Type 0} (make : ℕ → X) (test : ℕ → Bool) (n : ℕ) → length (map make (filter test (below n))) ≤ n
-summands_few make test n = let e = length-map (filter test (below n)) make in let h = passing test n in omega arith
-  where
-    one_more : (b : Bool) (n : ℕ) (ns : List ℕ) → length ns ≤ n → length (ns ++ (if b then n ∷ [] else [])) ≤ suc n
-    one_more true n ns h = let e = length-append ns (n ∷ []) in omega arith
-    one_more false n ns h = let e = length-append ns [] in omega arith
-
-    passing : (test : ℕ → Bool) (n : ℕ) → length (filter test (below n)) ≤ n
-    passing test zero = omega arith
-    passing test (suc n) = subst (λ ns. length ns ≤ suc n) (back (filter-append test (below n) (n ∷ []))) (one_more (test n) n (filter test (below n)) (passing test n))
 
 -- the difference of the sides that were made
 pub difference_of_sides : (r : Fusion) (left right inside_left inside_right at_left at_right : List (List Symbol)) (made : List (List Symbol) × List (List Symbol)) (p : List Term) →

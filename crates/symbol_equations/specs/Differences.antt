@@ -1,6 +1,7 @@
 -- The difference of both sides of an equation between sums of products of symbols, as a polynomial in the unknowns.
-use Rattle.std.specs.Prelude.{◌≡◌, Result, IfOk, pos, List, [], ◌∷◌, ◌++◌, flat_map, Contains}
+use Rattle.std.specs.Prelude.{◌≡◌, ℕ, Bool, if◌then◌else◌, Option, Some, None, Result, IfOk, pos, List, [], ◌∷◌, ◌++◌, map, filter, flat_map, Contains}
 use Rattle.std.specs.declared.alloc.AllocError.{AllocError}
+use Rattle.label_tuples.specs.Extended.{below}
 use Rattle.sparse_poly.specs.declared.Term.{Term}
 use Rattle.sparse_poly.specs.Polynomials.{products, negated, IsSum}
 use Rattle.sparse_poly.specs.Contributions.{IsPoly}
@@ -44,6 +45,14 @@ EquationAt {L} Is left_at right_at left right = (at : L) × Is at × (left ≡ l
 pub record AreDifferences (r : Fusion) (IsEquation : List (List Symbol) → List (List Symbol) → Type 0) (ps : List (List Term)) : Type 0 where
   pub each : (p : List Term) → Contains ps p → (left : List (List Symbol)) × (right : List (List Symbol)) × IsEquation left right × IsDifference r left right p
   pub all : (left right : List (List Symbol)) → IsEquation left right → (p : List Term) × Contains ps p × IsDifference r left right p
+
+-- where the answer at a label is its product if it passes the test, and else none
+abbrev pub MakesSummands : (ℕ → Result (Option (List Symbol)) AllocError → Type 0) → (ℕ → List Symbol) → (ℕ → Bool) → Type 0
+MakesSummands answers make test = (label : ℕ) (o : Result (Option (List Symbol)) AllocError) → answers label o → IfOk o (λ s. s ≡ (if test label then Some (make label) else None))
+
+-- the products are those at the labels below n that pass the test, as the answers make them
+abbrev pub AreTheirSummands : (ℕ → Result (Option (List Symbol)) AllocError → Type 0) → ℕ → List (List Symbol) → Type 0
+AreTheirSummands answers n products = (make : ℕ → List Symbol) (test : ℕ → Bool) → MakesSummands answers make test → products ≡ map make (filter test (below n))
 
 -- where the answers at a label are its sides
 abbrev pub MakesSides : {L : Type 0} → (L → Result (List (List Symbol) × List (List Symbol)) AllocError → Type 0) → (L → List (List Symbol)) → (L → List (List Symbol)) → Type 0

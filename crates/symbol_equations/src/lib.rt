@@ -5,7 +5,7 @@ ghost use Rattle.std.specs.Prelude.{◌≡◌, ◌≤◌, ◌↔◌, IsTrue, [],
 ghost use Rattle.field_laws.specs.Field.{AllElements};
 ghost use Rattle.sparse_poly.specs.Polynomials.{eval};
 ghost use Rattle.symbol_equations.specs.Values.{symbol_value, side_value};
-ghost use Rattle.symbol_equations.specs.Differences.{product_terms, side_terms, IsDifference, AreTheirDifferences};
+ghost use Rattle.symbol_equations.specs.Differences.{product_terms, side_terms, IsDifference, AreTheirSummands, AreTheirDifferences};
 ghost use Rattle.symbol_equations.specs.Trees.{is_tree};
 ghost use Rattle.symbol_equations.specs.Contributions.{optional_terms, with_coeff, IsLow};
 ghost use Rattle.monomial.specs.Monomials.{monomial_times};
@@ -202,6 +202,26 @@ fn times_unknown(alloc: Global, number: u32, monomial: &Monomial) -> Result<Mono
         Err(MonoFault::OutOfMemory) => Err(AllocError),
         Err(MonoFault::Degree { .. }) => unreachable!(),
     }
+}
+
+/// The products of a sum over all labels below `labels`, in order: `product` makes the one at a label,
+/// or `None` where the sum does not run over that label. It fails only where no memory is left.
+pub fn summands<F: Fn(u8) -> Result<Option<Product>, AllocError>>(
+    alloc: Global,
+    labels: u8,
+    product: F,
+) -> Result<Vec<Product>, AllocError>
+    requires { F.IsAlwaysCallable product }
+    ensures products { IfOk result (λ v. AreTheirSummands (F.post product) labels v.items) }
+    ensures few { IfOk result (λ v. vec_len v ≤ labels) }
+{
+    let mut products = Vec::new(alloc);
+    for label in 0..labels {
+        if let Some(summand) = product(label)? {
+            products.push(summand)?;
+        }
+    }
+    Ok(products)
 }
 
 /// The difference of both sides of each equation: `sides` makes the sides at each of the labels. It

@@ -1,26 +1,12 @@
-use Rattle.std.proofs.Common.{arith, ap, sym, ◌∙◌, length}
-use Rattle.symbol_equations.proofs.Listed.{summands_kept, summands_left, summands_few}
+use Rattle.std.proofs.Common.{rules, ap, ◌∙◌, map}
+use Rattle.std.specs.Prelude.{filter}
+use Rattle.std.proofs.lemmas.Result.{IfOk-weaker}
+use Rattle.label_tuples.specs.Extended.{below}
 use Rattle.pentagon_gen.specs.Pentagon.{is_inner, right_product}
 use Rattle.pentagon_gen.proofs.right_side.Goals as goal
-use Rattle.pentagon_gen.proofs.right_side.Goals.{then-is_inner+in_ok-right_product+in_ok-push, else-is_inner}
 
-pub loop-h-preserved : goal.loop-h-preserved
-loop-h-preserved c =
+pub returns-clause-products : goal.returns-clause-products
+returns-clause-products c =
     let make = right_product c.args.at in
     let test = is_inner c.args.ring.now c.args.at in
-    elim c.if-is_inner.branch [
-      | then-is_inner+in_ok-right_product+in_ok-push w ↦
-          summands_kept make test c.loop-h.h c.loop-h.products.items c.if-is_inner.products.items w.in_ok-right_product.field-0
-          (sym c.is_inner.ensures ∙ w.if-is_inner.true) c.loop-h.invariant w.in_ok-right_product.ensures (ap (λ v. v.items) w.products-is ∙ w.in_ok-push.ensures.items)
-      | else-is_inner w ↦
-          summands_left make test c.loop-h.h c.loop-h.products.items c.if-is_inner.products.items
-          (sym c.is_inner.ensures ∙ w.if-is_inner.false) c.loop-h.invariant (ap (λ v. v.items) w.products-is)
-    ]
-
-pub returns-clause-few : goal.returns-clause-few
-returns-clause-few c =
-    let few = summands_few (right_product c.args.at) (is_inner c.args.ring.now c.args.at) c.loop-h.h in
-    let same = ap length c.loop-h.invariant in
-    let labels = c.labels-h-end.ensures.ring.few_labels in
-    let count = c.labels-h-end.ensures.count in
-    omega arith
+    IfOk-weaker c.summands.result _ _ (λ v made. made make test (λ h o k. search rules) ∙ ap (λ n. map make (filter test (below n))) c.labels.ensures.count) c.summands.ensures.products
