@@ -1,5 +1,5 @@
 -- Which symbols the lists of all symbols and of the unknowns have, and that they ascend.
-use Rattle.std.specs.Prelude.{◌≡◌, ℕ, ◌<◌, Bool, true, ◌&&◌, not, IsTrue, List, ◌++◌, map, Contains, refl}
+use Rattle.std.specs.Prelude.{◌≡◌, ℕ, true, ◌&&◌, not, IsTrue, List, ◌++◌, map, Contains, refl}
 use Rattle.std.specs.declared.cmp.Ordering.TheVariants.{Less}
 use Rattle.std.proofs.Common.{sym as back, ◌∙◌, subst, append_assoc}
 use Rattle.std.proofs.lemmas.List.Elements.{Contains-append_left, Contains-append_right, Contains-append_cases}

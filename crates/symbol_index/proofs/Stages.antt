@@ -1,5 +1,5 @@
 -- The chains of conditions that list the labels of the unknowns.
-use Rattle.std.specs.Prelude.{◌≡◌, ℕ, Bool, true, false, ◌&&◌, ◌||◌, not, ◌==◌, List, filter, refl}
+use Rattle.std.specs.Prelude.{◌≡◌, ℕ, Bool, true, false, ◌&&◌, ◌||◌, not, ◌==◌, filter, refl}
 use Rattle.std.proofs.Common.{◌∙◌, ap}
 use Rattle.std.proofs.lemmas.List.Elements.{filter_agree}
 use Rattle.label_tuples.specs.Extended.{all_triples, all_sixes}

@@ -1,4 +1,4 @@
-use Rattle.std.proofs.Common.{rules, true, ◌&&◌, not, ◌==◌, refl, [], ◌∷◌, ◌∙◌}
+use Rattle.std.proofs.Common.{rules, true, not, ◌==◌, refl, [], ◌∷◌, ◌∙◌}
 use Rattle.std.proofs.lemmas.Result.{IfOk-weaker}
 use Rattle.std.proofs.lemmas.List.Elements.{filter_agree}
 use Rattle.label_tuples.specs.Extended.{kept, singles, pairs, triples, all_singles, all_pairs, all_triples}
