@@ -6,6 +6,7 @@
 #![tactic(auto)]
 
 mod file;
+mod gauge;
 mod problem;
 mod reader;
 mod symbols;
