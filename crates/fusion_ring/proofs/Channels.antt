@@ -1,5 +1,5 @@
 -- A channel's three numbers are labels.
-use Rattle.std.specs.Prelude.{◌≡◌, ℕ, ◌<◌, Bool, true, false, IsTrue, ◌&&◌, nat_lt, refl}
+use Rattle.std.specs.Prelude.{ℕ, ◌<◌, Bool, true, false, IsTrue, ◌&&◌, nat_lt, refl}
 use Rattle.std.proofs.Common.{arith}
 use Rattle.std.proofs.lemmas.Bool.Decides.{nat_tests}
 use Rattle.fusion_ring.specs.Fusion.{Fusion, channel}

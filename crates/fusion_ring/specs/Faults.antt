@@ -1,5 +1,5 @@
 -- When a list of triples states a ring, and what is wrong where it does not.
-use Rattle.std.specs.Prelude.{◌≡◌, ℕ, ◌<◌, ◌≤◌, ◌⊎◌, Bool, not, Option, None, Some, List, position}
+use Rattle.std.specs.Prelude.{◌≡◌, ℕ, ◌<◌, ◌≤◌, ◌⊎◌, not, None, Some, List, position}
 use Rattle.label_tuples.specs.Extended.{all_singles, all_triples, all_fours}
 use Rattle.label_tuples.specs.Order.{Before1, Before3, Before4, IsLeastFailing}
 use Rattle.fusion_ring.specs.declared.Triple.{Triple}

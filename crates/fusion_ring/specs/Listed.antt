@@ -1,5 +1,5 @@
 -- The ring that a list of triples states.
-use Rattle.std.specs.Prelude.{◌≡◌, ℕ, Bool, ◌&&◌, ◌||◌, not, ◌==◌, nat_lt, List, map, count_by}
+use Rattle.std.specs.Prelude.{ℕ, Bool, ◌&&◌, ◌||◌, not, ◌==◌, nat_lt, List, map, count_by}
 use Rattle.std.specs.List.{list_any}
 use Rattle.label_tuples.specs.Extended.{all_triples}
 use Rattle.fusion_ring.specs.declared.Triple.{Triple}

@@ -1,7 +1,6 @@
 -- The four rules of a fusion ring without multiplicities (Kitaev 2006, Appendix E), and the dual of a label.
-use Rattle.std.specs.Prelude.{◌≡◌, ℕ, ◌<◌, ◌≤◌, ◌*◌, Bool, true, ◌&&◌, ◌||◌, not, ◌==◌, List, Contains, count_by, length}
+use Rattle.std.specs.Prelude.{◌≡◌, ℕ, ◌≤◌, ◌*◌, Bool, true, ◌&&◌, not, ◌==◌, List, Contains, count_by, length}
 use Rattle.std.specs.Bool.{beq}
-use Rattle.std.specs.List.{list_all}
 use Rattle.label_tuples.specs.Extended.{below, all_singles, all_pairs, all_triples, all_fours}
 use Rattle.fusion_ring.specs.Fusion.{Fusion, channel}
 
@@ -15,7 +14,7 @@ has_unit_law r a c = beq (channel r 0 a c) (a == c) && beq (channel r a 0 c) (a 
 
 -- duals: exactly one b has N(a,b,0) = 1, and then N(b,a,0) = 1
 abbrev pub has_dual : Fusion → ℕ → Bool
-has_dual r a = count_by (λ b. channel r a b 0) (below r.labels) == 1 && list_all (λ b. not (channel r a b 0) || channel r b a 0) (below r.labels)
+has_dual r a = count_by (λ b. channel r a b 0) (below r.labels) == 1 && count_by (λ b. channel r a b 0 && not (channel r b a 0)) (below r.labels) == 0
 
 -- commutativity: N(a,b,c) = N(b,a,c)
 abbrev pub is_commutative : Fusion → ℕ → ℕ → ℕ → Bool

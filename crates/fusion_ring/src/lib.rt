@@ -6,9 +6,16 @@ ghost use Rattle.fusion_ring.specs.Fusion.{channel};
 ghost use Rattle.fusion_ring.specs.Rings.{IsDual, IsSmallRing};
 ghost use Rattle.fusion_ring.specs.Faults.{IsRingOf, IsRingFault};
 
+mod products;
+mod table;
+
+use products::{first_outside, least_repeat, least_unit_fault};
 use std::alloc::{AllocError, Global};
 use std::marker::Model;
+use table::Table;
 use thiserror::Error;
+
+const MAX_LABELS: u64 = 12;
 
 /// The product of the labels `a` and `b` has the channel `c`.
 #[derive(Clone, Copy, Debug, PartialEq)]
@@ -64,8 +71,7 @@ impl From<AllocError> for RingFault {
 /// commutative and associative.
 #[derive(Drop)]
 pub struct Ring {
-    labels: u8,
-    table: Vec<bool>,
+    table: Table,
 }
 
 impl Model for Ring {
@@ -74,9 +80,9 @@ impl Model for Ring {
 
     ghost Value = { Fusion };
 
-    ghost view = { λ r. record { labels = r.labels; table = r.table.items } };
+    ghost view = { λ r. r.table };
 
-    ghost invariant = { λ r. IsSmallRing (record { labels = r.labels; table = r.table.items }) };
+    ghost invariant = { λ r. IsSmallRing r.table };
 }
 
 impl Ring {
@@ -88,7 +94,31 @@ impl Ring {
     pub fn new(alloc: Global, labels: u64, products: &[Triple]) -> Result<Ring, RingFault>
         ensures { MatchResult result (IsRingOf labels products.now) (IsRingFault labels products.now) }
     {
-        Err(RingFault::OutOfMemory)
+        if labels == 0 || labels > MAX_LABELS {
+            return Err(RingFault::LabelCount { labels });
+        }
+        if let Some(index) = first_outside(labels, products) {
+            let index = index as u64;
+            return Err(RingFault::LabelRange { index });
+        }
+        let labels = labels as u8;
+        if let Some((a, b, c)) = least_repeat(alloc, labels, products)? {
+            return Err(RingFault::Multiplicity { a, b, c });
+        }
+        if let Some((a, b, c)) = least_unit_fault(alloc, labels, products)? {
+            return Err(RingFault::UnitFault { a, b, c });
+        }
+        let table = Table::stated(alloc, labels, products)?;
+        if let Some(a) = table.least_without_dual(alloc)? {
+            return Err(RingFault::DualFault { a });
+        }
+        if let Some((a, b, c)) = table.least_not_commutative(alloc)? {
+            return Err(RingFault::NotCommutative { a, b, c });
+        }
+        if let Some((a, b, c, d)) = table.least_not_associative(alloc)? {
+            return Err(RingFault::NotAssociative { a, b, c, d });
+        }
+        Ok(Ring { table })
     }
 
     /// The number of labels, 1 to 12.
@@ -96,18 +126,14 @@ impl Ring {
         ensures count { result ≡ self.now.labels }
         ensures ring { IsSmallRing self.now }
     {
-        self.labels
+        self.table.labels()
     }
 
     /// Whether a, b and c are labels and the product of a and b has the channel c.
     pub fn channel(&self, a: u8, b: u8, c: u8) -> bool
         ensures { result ≡ channel self.now a b c }
     {
-        if a >= self.labels || b >= self.labels || c >= self.labels {
-            return false;
-        }
-        let labels = self.labels as usize;
-        self.table[(a as usize * labels + b as usize) * labels + c as usize]
+        self.table.channel(a, b, c)
     }
 
     /// The dual of a label: the only label b with N(a,b,0) = 1.
@@ -128,8 +154,10 @@ impl Ring {
         ensures { IfOk result (λ r. r ≡ self.now) }
     {
         Ok(Ring {
-            labels: self.labels,
-            table: self.table.clone()?,
+            table: self.table.copy()?,
         })
     }
 }
+
+#[cfg(test)]
+mod tests;

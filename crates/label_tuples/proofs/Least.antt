@@ -144,3 +144,17 @@ least_fault Before ir xs a holds None e = λ s m. not_false (holds s) (find_none
 least_fault Before ir xs a holds (Some t) e =
     let p = find_passes Before (λ x. not (holds x)) xs t (back e) in
     (not_true (holds t) p.0, p.1, λ s m b. not_false (holds s) (find_least Before ir (λ x. not (holds x)) xs t a (back e) s m b))
+
+-- what `first_fault` finds among all tuples
+module _ {X : Type 0} (Before : X → X → Type 0) (ir : (x : X) → ¬ Before x x) (holds : X → Bool) where
+  pub least_of : (all found : List X) → Ascending Before all → found ≡ all → (o : Option X) → o ≡ find (λ x. not (holds x)) found → IsLeastFault Before all holds o
+  least_of all found a s o e = least_fault Before ir all a holds o (e ∙ ap (λ xs. find (λ x. not (holds x)) xs) s)
+
+pub least_single : (n : ℕ) (holds : ℕ → Bool) (found : List ℕ) (o : Option ℕ) → found ≡ all_singles n → o ≡ find (λ x. not (holds x)) found → IsLeastFault Before1 (all_singles n) holds o
+least_single n holds found o s e = least_of Before1 irreflexive1 holds (all_singles n) found (all_singles_ascending n) s o e
+
+pub least_triple : (n : ℕ) (holds : ℕ × ℕ × ℕ → Bool) (found : List (ℕ × ℕ × ℕ)) (o : Option (ℕ × ℕ × ℕ)) → found ≡ all_triples n → o ≡ find (λ x. not (holds x)) found → IsLeastFault Before3 (all_triples n) holds o
+least_triple n holds found o s e = least_of Before3 irreflexive3 holds (all_triples n) found (all_triples_ascending n) s o e
+
+pub least_four : (n : ℕ) (holds : ℕ × ℕ × ℕ × ℕ → Bool) (found : List (ℕ × ℕ × ℕ × ℕ)) (o : Option (ℕ × ℕ × ℕ × ℕ)) → found ≡ all_fours n → o ≡ find (λ x. not (holds x)) found → IsLeastFault Before4 (all_fours n) holds o
+least_four n holds found o s e = least_of Before4 irreflexive4 holds (all_fours n) found (all_fours_ascending n) s o e

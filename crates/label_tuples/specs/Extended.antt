@@ -1,5 +1,5 @@
 -- Tuples of labels, listed one label after the other.
-use Rattle.std.specs.Prelude.{◌≡◌, ℕ, zero, suc, Bool, if◌then◌else◌, Option, Some, None, List, [], ◌∷◌, ◌++◌, flat_map, filter_map, find, not, refl}
+use Rattle.std.specs.Prelude.{◌≡◌, ℕ, zero, suc, Bool, if◌then◌else◌, Option, Some, None, List, [], ◌∷◌, ◌++◌, flat_map, filter_map, find, count_by, not, refl}
 
 -- 0, 1, .. n - 1
 abbrev pub below : ℕ → List ℕ
@@ -86,3 +86,7 @@ IsFirstFault {T} answers ts o = (holds : T → Bool) → ((t : T) (b : Bool) →
 -- the same first fault stands in the rest
 abbrev pub FaultIsIn : {T : Type 0} → (T → Bool → Type 0) → List T → List T → Type 0
 FaultIsIn {T} answers ts rest = (holds : T → Bool) → ((t : T) (b : Bool) → answers t b → b ≡ holds t) → find (λ t. not (holds t)) ts ≡ find (λ t. not (holds t)) rest
+
+-- the count of the labels below n that pass the test that the answers compute
+abbrev pub IsCount : (ℕ → Bool → Type 0) → ℕ → ℕ → Type 0
+IsCount answers n count = (test : ℕ → Bool) → ((x : ℕ) (b : Bool) → answers x b → b ≡ test x) → count ≡ count_by test (below n)

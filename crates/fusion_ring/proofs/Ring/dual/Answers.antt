@@ -1,4 +1,4 @@
-use Rattle.std.proofs.Common.{arith, ◌∙◌, sym as back, subst, true, ◌≡◌}
+use Rattle.std.proofs.Common.{arith, ◌∙◌, sym as back}
 use Rattle.fusion_ring.proofs.Duals.{dual_is, dual_exists}
 use Rattle.fusion_ring.proofs.Ring.dual.Goals as goal
 
