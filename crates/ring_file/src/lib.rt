@@ -10,6 +10,8 @@ mod gauge;
 mod problem;
 mod reader;
 mod symbols;
+#[cfg(test)]
+mod tests;
 
 pub use problem::{Place, Problem, ProblemFault};
 pub use reader::read_problem;
