@@ -4,3 +4,4 @@ pub mod Order
 pub mod Primitive
 pub mod Units
 pub mod Reads
+pub mod Standing

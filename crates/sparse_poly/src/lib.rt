@@ -11,10 +11,15 @@ ghost use Rattle.sparse_poly.specs.Primitive.{IsPrimitivePart};
 ghost use Rattle.sparse_poly.specs.Units.{IsStripped, IsUnit};
 ghost use Rattle.sparse_poly.specs.Reads.{degree_in, main_variable, coefficient_of_power};
 
+mod entry;
 pub mod laws;
+mod merging;
+mod multiplying;
+mod squeezing;
 
 pub use laws::{combined_law, primitive_law, product_law, subtraction_law, sum_law};
 use monomial::Monomial;
+use multiplying::{added, combined, multiplied, summed};
 use std::alloc::{AllocError, AllocFailed, Global};
 use std::cmp::Ordering;
 use std::marker::Model;
@@ -122,7 +127,8 @@ impl Poly {
         ensures answer { MatchResult result (IsResult terms.items) (IsFault terms.items) }
         ensures degree { IfErr result IsNoDegree }
     {
-        Err(PolyFault::OutOfMemory)
+        let terms = summed(alloc, terms)?;
+        Ok(Poly { terms })
     }
 
     /// The terms, from the greatest monomial to the least.
@@ -146,14 +152,16 @@ impl Poly {
     pub fn combine(alloc: Global, l: &Poly, q: &Poly, a: &Poly, p: &Poly) -> Result<Poly, PolyFault>
         ensures { MatchResult result (IsResult (contributions l.now q.now a.now p.now)) (IsFault (contributions l.now q.now a.now p.now)) }
     {
-        Err(PolyFault::OutOfMemory)
+        let terms = combined(alloc, l.terms(), q.terms(), a.terms(), p.terms())?;
+        Ok(Poly { terms })
     }
 
     /// The product. Its contributions, `Degree` and `Heavy` are as for `combine`.
     pub fn times(&self, other: &Poly) -> Result<Poly, PolyFault>
         ensures { MatchResult result (IsResult (products self.now other.now)) (IsFault (products self.now other.now)) }
     {
-        Err(PolyFault::OutOfMemory)
+        let terms = multiplied(*self.terms.allocator(), self.terms(), other.terms())?;
+        Ok(Poly { terms })
     }
 
     /// The sum. A contribution is a term of either summand, so `Heavy` comes exactly where the absolute values of the coefficients of a
@@ -162,7 +170,8 @@ impl Poly {
         ensures answer { MatchResult result (IsResult (self.now ++ other.now)) (IsFault (self.now ++ other.now)) }
         ensures degree { IfErr result IsNoDegree }
     {
-        Err(PolyFault::OutOfMemory)
+        let terms = added(*self.terms.allocator(), self.terms(), other.terms())?;
+        Ok(Poly { terms })
     }
 
     /// The primitive part: the polynomial over its content, with a positive leading coefficient, and zero for zero. It fails only where no
