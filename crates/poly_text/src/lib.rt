@@ -7,6 +7,8 @@
 //! and where the exponent is 2 or more, `^` and the exponent. Numbers have no leading zeros.
 #![tactic(auto)]
 
+#[cfg(test)]
+mod tests;
 mod writer;
 
 pub use writer::write_poly;

@@ -1,5 +1,5 @@
 -- Which problem some bytes state, and why they state none.
-use Rattle.std.specs.Prelude.{◌≡◌, ◌≢◌, ℕ, ◌≤◌, not, ℤ, unsigned_abs, Some, List, map, take, slice_get, position, IsUtf8}
+use Rattle.std.specs.Prelude.{◌≡◌, ◌≢◌, ℕ, ◌≤◌, true, ℤ, unsigned_abs, Some, List, ◌∷◌, ◌++◌, map, length, IsUtf8}
 use Rattle.std.specs.List.{All}
 use Rattle.std.specs.Fmt.{signed_decimal}
 use Rattle.serde_json.specs.Data.{Data}
@@ -26,12 +26,19 @@ pub record IsNumberText (text : List ℕ) (v : ℤ) : Type 0 where
 abbrev pub HasNumber : Symbol × List ℕ → Type 0
 HasNumber e = (v : ℤ) × IsNumberText e.1 v
 
--- the item with the number i is the first of which P does not hold
+-- P does not hold of the item with the number i, and holds of all before it
 pub record IsFirstWithout {T : Type 0} (P : T → Type 0) (xs : List T) (i : ℕ) : Type 0 where
-  pub before : All P (take i xs)
+  pub front : List T
   pub at : T
-  pub is_at : slice_get xs i ≡ Some at
+  pub rest : List T
+  pub split : xs ≡ front ++ at ∷ rest
+  pub place : length front ≡ i
+  pub holds : All P front
   pub fails : ¬ P at
+
+-- the entry's symbol is an unknown F or R of the ring
+abbrev pub NamesUnknown : Fusion → Symbol × List ℕ → Type 0
+NamesUnknown r e = is_gauge_symbol r e.0 ≡ true
 
 -- the entry as a file writes it
 abbrev pub in_file : GaugeEntry → Symbol × List ℕ
@@ -49,7 +56,7 @@ IsFileFault file NotJson = ⊥
 IsFileFault file (Shape place) = ⊥
 IsFileFault file (Ring fault) = IsRingFault file.labels file.products fault × (fault ≢ ring_memory)
 IsFileFault file (GaugeNumber entry) = (r : Fusion) × IsRingOf file.labels file.products r × IsFirstWithout HasNumber file.gauge entry
-IsFileFault file (GaugeSymbol entry) = (r : Fusion) × IsRingOf file.labels file.products r × All HasNumber file.gauge × (position (λ e. not (is_gauge_symbol r e.0)) file.gauge ≡ Some entry)
+IsFileFault file (GaugeSymbol entry) = (r : Fusion) × IsRingOf file.labels file.products r × All HasNumber file.gauge × IsFirstWithout (NamesUnknown r) file.gauge entry
 IsFileFault file OutOfMemory = Unit {0}
 
 -- the bytes state this problem

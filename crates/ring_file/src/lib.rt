@@ -6,9 +6,12 @@
 #![tactic(auto)]
 
 mod file;
+mod gauge;
 mod problem;
 mod reader;
 mod symbols;
+#[cfg(test)]
+mod tests;
 
 pub use problem::{Place, Problem, ProblemFault};
 pub use reader::read_problem;

@@ -1,8 +1,6 @@
-use Rattle.std.proofs.Common.{◌≡◌, ◌++◌, ◌∙◌, sym, ap, true, false, refl, rules, None, Some}
-use Rattle.std.specs.Prelude.{is_some, not}
+use Rattle.std.proofs.Common.{◌≡◌, ◌++◌, ◌∙◌, sym, ap, rules, Some}
 use Rattle.serde_json.specs.View.{view, items_view}
-use Rattle.serde_json.specs.Find.{as_object}
-use Rattle.ring_file.specs.Files.{list_of, product_checks, entry_checks, checks, first_failing, has_name_form, has_only, is_file_name, items_or_none, entry_of, triple_of, labels_of, gauge_in, products_in}
+use Rattle.ring_file.specs.Files.{list_of, product_checks, entry_checks, checks, items_or_none, gauge_in, products_in}
 use Rattle.ring_file.proofs.Checks.{HasProducts, same_fault, within, name_checks, gauge_checks, at_products, at_gauge, no_gauge, at_entries, at_names, no_name, no_member, all_named}
 use Rattle.ring_file.proofs.file.read_outline.Goals as goal
 
