@@ -8,3 +8,5 @@ pub mod Rising
 pub mod Merges
 pub mod Squeezes
 pub mod Rows
+pub mod Same
+pub mod PrimitiveParts
