@@ -24,9 +24,11 @@ has_unit (Ginv a b c d f e) = a == 0 || b == 0 || c == 0
 has_unit (Rsym a b c) = a == 0 || b == 0
 has_unit (Sinv a b c) = a == 0 || b == 0
 
+-- admissible and no unit symbol
 abbrev pub is_unknown : Fusion → Symbol → Bool
 is_unknown r s = not (has_unit s) && is_admissible r s
 
+-- the symbols of tuples of labels
 abbrev pub fsym : ℕ × ℕ × ℕ × ℕ × ℕ × ℕ → Symbol
 fsym t = Fsym t.0 t.1 t.2 t.3 t.4 t.5
 
@@ -47,6 +49,7 @@ all_symbols n = map fsym (all_sixes n) ++ map ginv (all_sixes n) ++ map rsym (al
 abbrev pub unknowns : Fusion → List Symbol
 unknowns r = filter (is_unknown r) (all_symbols r.labels)
 
+-- one kind and the same labels
 abbrev pub is_same : Symbol → Symbol → Bool
 is_same (Fsym a b c d e f) (Fsym a' b' c' d' e' f') = a == a' && b == b' && c == c' && d == d' && e == e' && f == f'
 is_same (Ginv a b c d f e) (Ginv a' b' c' d' f' e') = a == a' && b == b' && c == c' && d == d' && f == f' && e == e'

@@ -1,13 +1,18 @@
 //! The F- and R-symbols of a fusion ring and their numbers.
 #![tactic(auto)]
 
-ghost use Rattle.std.specs.Prelude.{◌≡◌, ◌<◌, ◌≤◌, length, slice_get, position, Some, MatchResult};
-ghost use Rattle.symbol_index.specs.Symbols.{is_admissible, has_unit, is_same, unknowns, number, standing, max_unknowns, IsSymbolFault};
+ghost use Rattle.std.specs.Prelude.{◌≡◌, ◌<◌, ◌≤◌, IfOk, length, true, slice_get, Some, MatchResult};
+ghost use Rattle.symbol_index.specs.Symbols.{is_admissible, has_unit, is_unknown, unknowns, number, standing, max_unknowns, IsSymbolFault};
+ghost use Rattle.std.specs.List.Sorted.{IsBinarySearchResult};
+ghost use Rattle.symbol_index.specs.Order.{symbol_cmp};
+
+mod unknowns;
 
 use fusion_ring::Ring;
 use std::alloc::{AllocError, Global};
 use std::marker::Model;
 use thiserror::Error;
+use unknowns::numbered_unknowns;
 
 /// A symbol and its labels.
 ///
@@ -112,7 +117,11 @@ impl Symbols {
     pub fn new(alloc: Global, ring: &Ring) -> Result<Symbols, SymbolFault>
         ensures { MatchResult result (λ symbols. symbols ≡ ring.now) (IsSymbolFault ring.now) }
     {
-        Err(SymbolFault::OutOfMemory)
+        let list = numbered_unknowns(alloc, ring)?;
+        Ok(Symbols {
+            ring: ring.copy()?,
+            list,
+        })
     }
 
     /// The number of unknowns, at most 4,096.
@@ -137,9 +146,10 @@ impl Symbols {
     }
 
     fn number(&self, s: Symbol) -> u32
+        requires { is_unknown self.now s ≡ true }
         ensures { result ≡ number self.now s }
     {
-        place(&self.list, s).unwrap_or(0) as u32
+        find(&self.list, s).unwrap_or(0) as u32
     }
 
     /// The unknown with the number i.
@@ -174,14 +184,13 @@ fn has_unit(s: Symbol) -> bool
     }
 }
 
-fn is_same(s: Symbol, t: Symbol) -> bool
-    ensures { result ≡ is_same s t }
+/// Finds a symbol in a list in ascending order.
+fn find(symbols: &[Symbol], s: Symbol) -> Result<usize, usize>
+    ensures place { IsBinarySearchResult (λ u. symbol_cmp u s) symbols.now result }
+    ensures in_range { IfOk result (λ i. i < length symbols.now) }
 {
-    s == t
+    symbols.binary_search(&s)
 }
 
-fn place(symbols: &[Symbol], s: Symbol) -> Option<usize>
-    ensures { result ≡ position (λ u. is_same u s) symbols.now }
-{
-    symbols.iter().position(|u| is_same(*u, s))
-}
+#[cfg(test)]
+mod tests;

@@ -1,9 +1,8 @@
-use Rattle.std.proofs.Common.{◌∙◌, ap}
-use Rattle.std.specs.Option.{unwrap_or}
-use Rattle.std.specs.Prelude.{position}
-use Rattle.symbol_index.specs.Symbols.{is_same}
+use Rattle.std.proofs.Common.{◌∙◌}
+use Rattle.symbol_index.proofs.Standings.{number_from_search}
 use Rattle.symbol_index.proofs.Symbols.number.Goals as goal
 
 pub returns : goal.returns
 returns c =
-    rw (← c.self.view_is) (c.unwrap_or.ensures ∙ ap (λ o. unwrap_or o 0) (c.place.ensures ∙ ap (λ xs. position (λ u. is_same u c.args.s) xs) (c.deref.ensures.value ∙ c.self.invariant.0)))
+    rw (← c.self.view_is)
+    (c.unwrap_or.ensures ∙ number_from_search c.self.inside.ring c.args.s (rw c.self.view_is c.requires) c.deref.result.now c.find.result (c.deref.ensures.value ∙ c.self.invariant.0) c.find.ensures.place c.find.ensures.in_range)
