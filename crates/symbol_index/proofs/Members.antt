@@ -1,9 +1,5 @@
 -- Which symbols the lists of all symbols and of the unknowns have, and that they ascend.
-<<<<<<< HEAD
-use Rattle.std.specs.Prelude.{◌≡◌, ℕ, ◌<◌, Bool, true, ◌&&◌, not, IsTrue, List, ◌++◌, map, Contains, refl}
-=======
 use Rattle.std.specs.Prelude.{◌≡◌, ℕ, true, ◌&&◌, not, IsTrue, List, ◌++◌, map, Contains, refl}
->>>>>>> 11c91dd7eea92fc2f27cee2cfcdfd9b5a7892cca
 use Rattle.std.specs.declared.cmp.Ordering.TheVariants.{Less}
 use Rattle.std.proofs.Common.{sym as back, ◌∙◌, subst, append_assoc}
 use Rattle.std.proofs.lemmas.List.Elements.{Contains-append_left, Contains-append_right, Contains-append_cases}

@@ -1,9 +1,5 @@
 -- The place of a symbol in a list of symbols in order, and what a binary search finds.
-<<<<<<< HEAD
-use Rattle.std.specs.Prelude.{◌≡◌, ℕ, zero, suc, ◌<◌, ◌≤◌, ◌⊎◌, Bool, true, false, cond, nat_lt, Option, Some, None, Ok, Err, Result, List, length, slice_index_or, position, Contains, refl}
-=======
 use Rattle.std.specs.Prelude.{◌≡◌, ℕ, ◌<◌, ◌⊎◌, cond, nat_lt, Some, None, Ok, Err, Result, List, length, slice_index_or, position, Contains, refl}
->>>>>>> 11c91dd7eea92fc2f27cee2cfcdfd9b5a7892cca
 use Rattle.std.specs.List.{position_or_len}
 use Rattle.std.specs.List.Sorted.{IsBinarySearchResult, IsNonDecreasingBy}
 use Rattle.std.specs.declared.cmp.Ordering.{Ordering}
@@ -15,11 +11,7 @@ use Rattle.std.proofs.lemmas.List.Sums.{position_or_len_is}
 use Rattle.symbol_index.specs.declared.Symbol.{Symbol}
 use Rattle.symbol_index.specs.Symbols.{is_same}
 use Rattle.symbol_index.specs.Order.{symbol_cmp}
-<<<<<<< HEAD
-use Rattle.symbol_index.proofs.Compared.{symbol_equal, symbol_anti, symbol_itself, is_same_is}
-=======
 use Rattle.symbol_index.proofs.Compared.{symbol_anti, symbol_itself, is_same_is}
->>>>>>> 11c91dd7eea92fc2f27cee2cfcdfd9b5a7892cca
 use Rattle.symbol_index.proofs.Members.{IsBefore}
 use Rattle.symbol_index.proofs.Sorted.{Sorted, sorted_at}
 

@@ -1,11 +1,6 @@
 -- Lists in which each element is related to all later ones.
-<<<<<<< HEAD
-use Rattle.std.specs.Prelude.{◌≡◌, ◌≢◌, ℕ, zero, suc, ◌+◌, ◌<◌, Bool, true, false, cond, List, [], ◌∷◌, ◌++◌, map, filter, length, slice_index_or, Contains, refl}
-use Rattle.std.proofs.Common.{arith, sym as back, ◌∙◌, ap, subst, inl, inr}
-=======
 use Rattle.std.specs.Prelude.{◌≡◌, ◌≢◌, ℕ, zero, suc, ◌<◌, Bool, true, false, cond, List, [], ◌∷◌, ◌++◌, map, filter, length, slice_index_or, Contains, refl}
 use Rattle.std.proofs.Common.{arith, ◌∙◌, ap, subst, inl, inr}
->>>>>>> 11c91dd7eea92fc2f27cee2cfcdfd9b5a7892cca
 use Rattle.std.proofs.lemmas.List.Elements.{Contains-append_cases, Contains-get_or}
 use Rattle.label_tuples.specs.Order.{Ascending}
 use Rattle.label_tuples.proofs.Members.{none_contained, contains_here, contains_there, contains_cons}

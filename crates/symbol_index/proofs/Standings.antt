@@ -1,29 +1,15 @@
 -- What the standing of a symbol says.
-<<<<<<< HEAD
-use Rattle.std.specs.Prelude.{◌≡◌, ℕ, ◌<◌, ◌⊎◌, Bool, true, false, ◌&&◌, not, if◌then◌else◌, Some, Ok, Result, IfOk, List, length, slice_get, slice_index_or, position, Contains, refl}
-=======
 use Rattle.std.specs.Prelude.{◌≡◌, ℕ, ◌<◌, Bool, true, false, ◌&&◌, not, if◌then◌else◌, Some, Result, IfOk, List, length, slice_get, slice_index_or, Contains, refl}
->>>>>>> 11c91dd7eea92fc2f27cee2cfcdfd9b5a7892cca
 use Rattle.std.specs.Option.{unwrap_or}
 use Rattle.std.specs.Result.{result_unwrap_or}
 use Rattle.std.specs.List.Sorted.{IsBinarySearchResult}
 use Rattle.symbol_index.specs.Order.{symbol_cmp}
-<<<<<<< HEAD
-use Rattle.std.proofs.Common.{arith, sym as back, ◌∙◌, ap, subst}
-use Rattle.std.proofs.lemmas.Option.{slice_get-get_or}
-use Rattle.fusion_ring.specs.Fusion.{Fusion}
-use Rattle.symbol_index.specs.declared.Symbol.{Symbol}
-use Rattle.symbol_index.specs.declared.Standing.{Standing}
-use Rattle.symbol_index.specs.declared.Standing.TheVariants.{Unit as unit_symbol, Unknown, NotAdmissible}
-use Rattle.symbol_index.specs.Symbols.{is_admissible, has_unit, is_unknown, is_same, unknowns, number, standing}
-=======
 use Rattle.std.proofs.Common.{sym as back, ◌∙◌, ap, subst}
 use Rattle.std.proofs.lemmas.Option.{slice_get-get_or}
 use Rattle.fusion_ring.specs.Fusion.{Fusion}
 use Rattle.symbol_index.specs.declared.Symbol.{Symbol}
 use Rattle.symbol_index.specs.declared.Standing.TheVariants.{Unit as unit_symbol, Unknown, NotAdmissible}
 use Rattle.symbol_index.specs.Symbols.{is_admissible, has_unit, is_unknown, unknowns, number, standing}
->>>>>>> 11c91dd7eea92fc2f27cee2cfcdfd9b5a7892cca
 use Rattle.symbol_index.proofs.Members.{unknowns_sorted, unknowns_contain, contains_unknowns}
 use Rattle.symbol_index.proofs.Numbers.{position_is, search_is}
 

@@ -1,11 +1,7 @@
 -- The order of symbols: F, G, R, S, and each by its labels.
 use Rattle.std.specs.Prelude.{ℕ}
 use Rattle.std.specs.declared.cmp.Ordering.{Ordering}
-<<<<<<< HEAD
-use Rattle.std.specs.declared.cmp.Ordering.TheVariants.{Less, Equal, Greater}
-=======
 use Rattle.std.specs.declared.cmp.Ordering.TheVariants.{Less, Greater}
->>>>>>> 11c91dd7eea92fc2f27cee2cfcdfd9b5a7892cca
 use Rattle.std.specs.Ordering.{nat_cmp, ordering_then}
 use Rattle.symbol_index.specs.declared.Symbol.{Symbol}
 use Rattle.symbol_index.specs.declared.Symbol.TheVariants.{Fsym, Ginv, Rsym, Sinv}

@@ -25,18 +25,11 @@ fn listed(alloc: Global, triples: &[(u64, u64, u64)]) -> Result<Products, AllocE
     Ok(products)
 }
 
-<<<<<<< HEAD
-fn cyclic(alloc: Global, n: u64) -> Result<Products, AllocError> {
-    let mut products = Vec::new(alloc);
-    for a in 1..n {
-        for b in 1..n {
-=======
 fn cyclic(alloc: Global, n: u8) -> Result<Products, AllocError> {
     let mut products = Vec::new(alloc);
     for a in 1..n {
         for b in 1..n {
             let (a, b, n) = (u64::from(a), u64::from(b), u64::from(n));
->>>>>>> 11c91dd7eea92fc2f27cee2cfcdfd9b5a7892cca
             products.push(Triple {
                 a,
                 b,

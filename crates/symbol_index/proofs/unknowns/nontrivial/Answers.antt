@@ -1,8 +1,4 @@
-<<<<<<< HEAD
-use Rattle.std.proofs.Common.{rules, true, ◌&&◌, not, ◌==◌, refl, [], ◌∷◌, ◌∙◌}
-=======
 use Rattle.std.proofs.Common.{rules, true, not, ◌==◌, refl, [], ◌∷◌, ◌∙◌}
->>>>>>> 11c91dd7eea92fc2f27cee2cfcdfd9b5a7892cca
 use Rattle.std.proofs.lemmas.Result.{IfOk-weaker}
 use Rattle.std.proofs.lemmas.List.Elements.{filter_agree}
 use Rattle.label_tuples.specs.Extended.{kept, singles, pairs, triples, all_singles, all_pairs, all_triples}
