@@ -132,3 +132,6 @@ fn pentagon_labels(alloc: Global, ring: &Ring) -> Result<Vec<PentagonLabels>, Al
         })
     })
 }
+
+#[cfg(test)]
+mod tests;
