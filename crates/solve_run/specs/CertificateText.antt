@@ -7,7 +7,7 @@ abbrev pub equation_lines : List (List Term) → List ℕ
 equation_lines [] = []
 equation_lines (p ∷ ps) = codes "eq " ++ poly_text p ++ codes "\n" ++ equation_lines ps
 
-abbrev pub head_text : ℕ → ℕ → List ℕ
+unfoldable pub head_text : ℕ → ℕ → List ℕ
 head_text unknowns equations = codes "braidcert 1\nunknowns " ++ (decimal unknowns ++ (codes "\nequations " ++ (decimal equations ++ codes "\nbudget 0\nleaf 0 open budget\n")))
 
 abbrev pub open_leaf_text : ℕ → List (List Term) → List ℕ

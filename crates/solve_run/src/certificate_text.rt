@@ -20,6 +20,7 @@ pub fn open_leaf(alloc: Global, root: &Root) -> Result<Vec<u8>, AllocError>
     Ok(text)
 }
 
+#[tactic(auto, unfolding(crate::specs::CertificateText::head_text))]
 fn head(alloc: Global, unknowns: u32, equations: usize) -> Result<String, AllocError>
     ensures { IfOk result (λ s. string_bytes s ≡ head_text unknowns equations) }
 {

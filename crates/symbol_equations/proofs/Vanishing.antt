@@ -45,7 +45,7 @@ module _ {E : Type 0} (f : Field E) (l : IsField f) (x : List E) (elements : All
       back_one : IsElement f (f.plus f.zero f.one)
       back_one = l.plus_is _ _ l.zero_is l.one_is
 
-  eval-standing : (s : Standing) → eval f x (standing_terms s) ≡ standing_value f x s
+  pub eval-standing : (s : Standing) → eval f x (standing_terms s) ≡ standing_value f x s
   eval-standing unit_symbol = eval-one
   eval-standing (Unknown i) = unknown_value (listed_is f l x elements i)
     where
