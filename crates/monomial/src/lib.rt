@@ -78,6 +78,16 @@ impl Monomial {
         Ok(Monomial { powers })
     }
 
+    /// The monomial of a list of powers from the greatest variable down. It fails only where no memory is left.
+    pub fn from_powers(alloc: Global, powers: &[(u32, u16)]) -> Result<Monomial, AllocError>
+        requires { IsMonomial powers.now }
+        ensures { IfOk result (λ m. m ≡ powers.now) }
+    {
+        Ok(Monomial {
+            powers: SmallVec::from_slice(alloc, powers)?,
+        })
+    }
+
     /// An equal monomial. It fails only where no memory is left.
     pub fn copy(&self) -> Result<Monomial, AllocError>
         ensures { IfOk result (λ m. m ≡ self.now) }

@@ -10,3 +10,8 @@ pub mod Squeezes
 pub mod Rows
 pub mod Same
 pub mod PrimitiveParts
+pub mod Contents
+pub mod UnitMonomials
+pub mod Strips
+pub mod Powers
+pub mod Units

@@ -5,3 +5,4 @@ pub mod Primitive
 pub mod Units
 pub mod Reads
 pub mod Standing
+pub mod Factors

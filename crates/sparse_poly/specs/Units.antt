@@ -5,6 +5,7 @@ use Rattle.field_laws.specs.Field.{Field}
 use Rattle.monomial.specs.Monomials.{exponent}
 use Rattle.sparse_poly.specs.declared.Term.{Term}
 use Rattle.sparse_poly.specs.Polynomials.{eval, products, constant, variable, IsSum}
+use Rattle.sparse_poly.specs.Contributions.{IsPoly}
 use Rattle.sparse_poly.specs.Primitive.{IsPrimitive}
 
 -- one term, whose variables are all members of the units
@@ -16,6 +17,8 @@ IsUnitTerm units (t ∷ u ∷ us) = ⊥
 -- p stripped under the units: p is factor times rest, the rest is primitive and divided by no variable that is a member of the units,
 -- and the factor is what was divided out, 1 for zero
 pub record IsStripped (units : List (List Term)) (p factor rest : List Term) : Type 0 where
+  pub factor_poly : IsPoly factor
+  pub rest_poly : IsPoly rest
   pub product : IsSum p (products factor rest)
   pub primitive : IsPrimitive rest
   pub divided : (v : ℕ) → Contains units (variable v) → AllByRecursion (λ (t : Term). 0 < exponent t.monomial v) rest → rest ≡ []

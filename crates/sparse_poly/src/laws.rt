@@ -4,7 +4,7 @@ ghost use Rattle.std.specs.Prelude.{◌≡◌, ◌≢◌, ◌↔◌, ◌++◌};
 ghost use Rattle.field_laws.specs.Field.{AllElements};
 ghost use Rattle.sparse_poly.specs.Polynomials.{eval, products, negated, IsSum};
 ghost use Rattle.sparse_poly.specs.Primitive.{IsPrimitivePart};
-ghost use Rattle.sparse_poly.specs.Units.{IsUnit, AllNonzero};
+ghost use Rattle.sparse_poly.specs.Units.{IsStripped, IsUnit, AllNonzero};
 
 use field_laws::CharZeroField;
 
@@ -31,4 +31,14 @@ pub fn combined_law<F: CharZeroField>()
 /// A primitive part vanishes exactly where the polynomial does.
 pub fn primitive_law<F: CharZeroField>()
     ensures { (s : _) (p q : _) → AllElements F.field s → IsPrimitivePart p q → eval F.field s p ≡ F.field.zero ↔ eval F.field s q ≡ F.field.zero }
+{}
+
+/// Where no member of the units vanishes, a unit does not vanish.
+pub fn unit_law<F: CharZeroField>()
+    ensures { (s : _) (units : _) (p : _) → AllElements F.field s → AllNonzero F.field s units → IsUnit units p → eval F.field s p ≢ F.field.zero }
+{}
+
+/// The value of a polynomial is that of its factor times that of its rest.
+pub fn strip_law<F: CharZeroField>()
+    ensures { (s : _) (units : _) (p factor rest : _) → AllElements F.field s → IsStripped units p factor rest → eval F.field s p ≡ F.field.times (eval F.field s factor) (eval F.field s rest) }
 {}

@@ -8,7 +8,7 @@ ghost use Rattle.sparse_poly.specs.Polynomials.{products, constant, variable};
 ghost use Rattle.sparse_poly.specs.Contributions.{max_coeff, contributions, IsPoly, IsResult, IsFault, IsNoDegree};
 ghost use Rattle.sparse_poly.specs.Order.{poly_cmp, term_cmp};
 ghost use Rattle.sparse_poly.specs.Primitive.{IsPrimitivePart};
-ghost use Rattle.sparse_poly.specs.Units.{IsStripped, IsUnit};
+ghost use Rattle.sparse_poly.specs.Units.{IsStripped, IsOneOrMember, IsUnit};
 ghost use Rattle.sparse_poly.specs.Reads.{degree_in, main_variable, coefficient_of_power};
 
 mod entry;
@@ -16,13 +16,17 @@ pub mod laws;
 mod merging;
 mod multiplying;
 mod squeezing;
+mod stripping;
 
-pub use laws::{combined_law, primitive_law, product_law, subtraction_law, sum_law};
+pub use laws::{
+    combined_law, primitive_law, product_law, strip_law, subtraction_law, sum_law, unit_law,
+};
 use monomial::Monomial;
 use multiplying::{added, combined, multiplied, summed};
 use std::alloc::{AllocError, AllocFailed, Global};
 use std::cmp::Ordering;
 use std::marker::Model;
+use stripping::{content_of, is_member, quotients, same_terms, terms_of_power, unit_monomial};
 
 /// A monomial with its coefficient.
 #[derive(Drop)]
@@ -104,21 +108,32 @@ impl Poly {
         requires { unsigned_abs n ≤ max_coeff }
         ensures { IfOk result (λ p. p ≡ constant n) }
     {
-        Err(AllocError)
+        let mut terms = Vec::new(alloc);
+        if n != 0 {
+            terms.push(Term {
+                monomial: Monomial::one(alloc),
+                coeff: n,
+            })?;
+        }
+        Ok(Poly { terms })
     }
 
     /// The polynomial of a variable. It fails only where no memory is left.
     pub fn variable(alloc: Global, var: u32) -> Result<Poly, AllocError>
         ensures { IfOk result (λ p. p ≡ variable var) }
     {
-        Err(AllocError)
+        let monomial = Monomial::power(alloc, var, 1)?;
+        let mut terms = Vec::new(alloc);
+        terms.push(Term { monomial, coeff: 1 })?;
+        Ok(Poly { terms })
     }
 
     /// An equal polynomial. It fails only where no memory is left.
     pub fn copy(&self) -> Result<Poly, AllocError>
         ensures { IfOk result (λ p. p ≡ self.now) }
     {
-        Err(AllocError)
+        let terms = same_terms(*self.terms.allocator(), &self.terms)?;
+        Ok(Poly { terms })
     }
 
     /// The polynomial that these terms add up to. `Heavy` comes exactly where the absolute values of the coefficients of a monomial add up to
@@ -137,6 +152,13 @@ impl Poly {
         ensures poly { IsPoly self.now }
     {
         &self.terms
+    }
+
+    /// Whether this is the constant polynomial 1.
+    pub fn is_one(&self) -> bool
+        ensures { IsTrue result ↔ (self.now ≡ constant (pos 1)) }
+    {
+        matches!(self.constant_value(), Some(1))
     }
 
     /// Whether this is the polynomial zero.
@@ -179,7 +201,11 @@ impl Poly {
     pub fn primitive_part(&self) -> Result<Poly, AllocError>
         ensures { IfOk result (λ q. IsPrimitivePart self.now q) }
     {
-        Err(AllocError)
+        let alloc = *self.terms.allocator();
+        let terms = self.terms();
+        let one = Monomial::one(alloc);
+        let rest = quotients(alloc, terms, &one, content_of(terms))?;
+        Ok(Poly { terms: rest })
     }
 
     /// The polynomial stripped under the units: made primitive, and then divided, as often as it divides, by each variable that is a member of
@@ -188,21 +214,37 @@ impl Poly {
     pub fn strip(&self, units: &[Poly]) -> Result<Stripped, AllocError>
         ensures { IfOk result (λ s. IsStripped units.now self.now s.factor s.rest) }
     {
-        Err(AllocError)
+        let alloc = *self.terms.allocator();
+        let terms = self.terms();
+        let content = content_of(terms);
+        let monomial = unit_monomial(alloc, terms, units)?;
+        let rest = quotients(alloc, terms, &monomial, content)?;
+        let mut factor = Vec::new(alloc);
+        factor.push(Term {
+            monomial,
+            coeff: content,
+        })?;
+        Ok(Stripped {
+            factor: Poly { terms: factor },
+            rest: Poly { terms: rest },
+        })
     }
 
     /// Whether the rest of this polynomial under the units is the constant 1 or a member of the units. It fails only where no memory is left.
     pub fn is_unit(&self, units: &[Poly]) -> Result<bool, AllocError>
         ensures { IfOk result (λ b. IsTrue b ↔ IsUnit units.now self.now) }
     {
-        Err(AllocError)
+        let _terms = self.terms();
+        let stripped = self.strip(units)?;
+        Ok(is_one_or_member(units, &stripped.rest))
     }
 
     /// The coefficient of `var^exp`: the terms in which the variable has this exponent, without it. It fails only where no memory is left.
     pub fn coefficient_in(&self, var: u32, exp: u32) -> Result<Poly, AllocError>
         ensures { IfOk result (λ p. p ≡ coefficient_of_power var exp self.now) }
     {
-        Err(AllocError)
+        let terms = terms_of_power(*self.terms.allocator(), self.terms(), var, exp)?;
+        Ok(Poly { terms })
     }
 
     /// The order of polynomials: terms are compared from the greatest monomial down, first by monomial and then by coefficient, and a proper
@@ -242,6 +284,16 @@ impl Poly {
             None => Some(0),
         }
     }
+}
+
+// Whether a polynomial is the constant 1 or a member of a list.
+fn is_one_or_member(units: &[Poly], rest: &Poly) -> bool
+    ensures { IsTrue result ↔ IsOneOrMember units.now rest.now }
+{
+    if rest.is_one() {
+        return true;
+    }
+    is_member(units, rest)
 }
 
 // The order of two lists of terms.

@@ -8,6 +8,7 @@ use Rattle.label_tuples.proofs.Members.{IsListOf, none_contained, contains_here,
 use Rattle.field_laws.specs.Field.{Field, IsField, AllElements}
 use Rattle.sparse_poly.specs.declared.Term.{Term}
 use Rattle.sparse_poly.specs.Polynomials.{eval}
+use Rattle.sparse_poly.proofs.Same.{same_polynomial}
 use Rattle.fusion_ring.specs.Fusion.{Fusion}
 use Rattle.symbol_index.specs.declared.Symbol.{Symbol}
 use Rattle.symbol_equations.specs.Values.{symbol_value, side_value}
@@ -113,3 +114,15 @@ pub differences_found : {L : Type 0} (r s : Fusion) (answers : L → Result (Lis
     s ≡ r → IsListOf all Is → labels ≡ all → MakesSides answers left_at right_at → AreTheirDifferences s answers labels ps → AreDifferences r (EquationAt Is left_at right_at) ps
 differences_found r s answers Is left_at right_at all labels ps same is e made found =
     differences_all r left_at right_at Is all labels ps is e (subst (λ t. AreDifferences t (EquationAt (Contains labels) left_at right_at) ps) same (found left_at right_at made))
+
+-- an equation has one difference
+pub one_difference : (r : Fusion) (left right : List (List Symbol)) (p q : List Term) → IsDifference r left right p → IsDifference r left right q → p ≡ q
+one_difference r left right p q d e = same_polynomial p q d.0 e.0 (λ m. d.1 m ∙ back (e.1 m))
+
+-- so the members of the list are exactly the differences of the equations
+pub differences_contained : (r : Fusion) (IsEquation : List (List Symbol) → List (List Symbol) → Type 0) (ps : List (List Term)) → AreDifferences r IsEquation ps →
+    (p : List Term) → Contains ps p ↔ ((left : List (List Symbol)) × (right : List (List Symbol)) × IsEquation left right × IsDifference r left right p)
+differences_contained r IsEquation ps are p = (
+  are.each p,
+  λ e. let d = are.all e.0 e.1 e.2 in subst (λ q. Contains ps q) (one_difference r e.0 e.1 d.0 p d.2 e.3) d.1,
+)

@@ -58,21 +58,21 @@ module _ {E : Type 0} (f : Field E) (l : IsField f) (x : List E) (elements : All
           ∙ l.plus-zero a h
   eval-standing NotAdmissible = refl
 
-  eval-product : (ss : List Symbol) → eval f x (product_terms r ss) ≡ product_value f value ss
+  pub eval-product : (ss : List Symbol) → eval f x (product_terms r ss) ≡ product_value f value ss
   eval-product [] = eval-one
   eval-product (s ∷ ss) =
       eval-products f l x elements (standing_terms (standing r s)) (product_terms r ss)
       ∙ ap (λ y. times y (eval f x (product_terms r ss))) (eval-standing (standing r s))
       ∙ ap (λ y. times (value s) y) (eval-product ss)
 
-  eval-side : (side : List (List Symbol)) → eval f x (side_terms r side) ≡ side_value f value side
+  pub eval-side : (side : List (List Symbol)) → eval f x (side_terms r side) ≡ side_value f value side
   eval-side [] = refl
   eval-side (ss ∷ side) =
       eval-append f l x elements (product_terms r ss) (side_terms r side)
       ∙ ap (λ y. plus y (eval f x (side_terms r side))) (eval-product ss)
       ∙ ap (λ y. plus (product_value f value ss) y) (eval-side side)
 
-  eval-difference : (left right : List (List Symbol)) (p : List Term) → IsDifference r left right p → eval f x p ≡ plus (side_value f value left) (minus (side_value f value right))
+  pub eval-difference : (left right : List (List Symbol)) (p : List Term) → IsDifference r left right p → eval f x p ≡ plus (side_value f value left) (minus (side_value f value right))
   eval-difference left right p d =
       eval-same f l x elements p _ d.1
       ∙ eval-append f l x elements (side_terms r left) (negated (side_terms r right))
