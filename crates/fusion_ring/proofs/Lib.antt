@@ -1,0 +1,5 @@
+pub mod Indices
+pub mod Channels
+pub mod Duals
+pub mod Stated
+pub mod Rules

@@ -1,0 +1,9 @@
+use Rattle.std.proofs.Common.{rules, ◌∙◌}
+use Rattle.label_tuples.proofs.Least.{least_triple}
+use Rattle.fusion_ring.specs.Listed.{is_single}
+use Rattle.fusion_ring.proofs.products.least_repeat.Goals as goal
+
+pub returns : goal.returns
+returns c =
+    let holds = is_single c.args.products.now in
+    least_triple c.args.labels holds c.deref.result.now c.first_fault.result (c.deref.ensures.value ∙ c.in_ok-all.ensures) (c.first_fault.ensures holds (λ t b h. search rules))

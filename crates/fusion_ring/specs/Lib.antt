@@ -1,0 +1,4 @@
+pub mod Fusion
+pub mod Rings
+pub mod Listed
+pub mod Faults

@@ -1,0 +1,2 @@
+pub mod Hexagons
+pub mod Differences

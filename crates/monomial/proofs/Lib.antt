@@ -1,0 +1,4 @@
+pub mod Steps
+pub mod Total
+pub mod Exponents
+pub mod Lower

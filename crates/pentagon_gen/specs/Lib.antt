@@ -1,0 +1,2 @@
+pub mod Pentagon
+pub mod Differences

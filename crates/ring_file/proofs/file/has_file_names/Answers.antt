@@ -1,0 +1,6 @@
+use Rattle.ring_file.specs.Files.{is_file_name}
+use Rattle.ring_file.proofs.Names.{has_only_of_keys}
+use Rattle.ring_file.proofs.file.has_file_names.Goals as goal
+
+pub returns-in-Some : goal.returns-in-Some
+returns-in-Some c = has_only_of_keys is_file_name c.args.value.now c.in-Some.members.now.entries _ c.in-Some.ensures c.are_file_names.ensures

@@ -1,0 +1,4 @@
+pub mod Problems
+pub mod Files
+pub mod Named
+pub mod Reading

@@ -1,0 +1,4 @@
+pub mod InOrder
+pub mod Parts
+pub mod Vanishing
+pub mod Variables

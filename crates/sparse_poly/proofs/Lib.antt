@@ -1,0 +1,17 @@
+pub mod Total
+pub mod Ordered
+pub mod Evaluation
+pub mod Adding
+pub mod Sums
+pub mod Standings
+pub mod Rising
+pub mod Merges
+pub mod Squeezes
+pub mod Rows
+pub mod Same
+pub mod PrimitiveParts
+pub mod Contents
+pub mod UnitMonomials
+pub mod Strips
+pub mod Powers
+pub mod Units

@@ -1,0 +1,119 @@
+-- Steps of the comparison of two polynomials, and what their order says of their greatest variables.
+use Rattle.std.specs.Prelude.{◌≡◌, ◌≢◌, ℕ, ◌+◌, ◌<◌, ◌≤◌, List, [], ◌∷◌, drop, length, slice_get, ℤ, pos, negsuc, zero, suc, if◌then◌else◌, nat_lt, refl}
+use Rattle.std.proofs.Common.{arith, sym, ◌∙◌, ap, subst}
+use Rattle.std.proofs.lemmas.List.{length-drop}
+use Rattle.std.specs.List.{AllByRecursion}
+use Rattle.std.proofs.lemmas.Bool.Decides.{nat_tests}
+use Rattle.std.specs.declared.option.Option.{Option}
+use Rattle.std.specs.declared.option.Option.TheVariants.{None, Some}
+use Rattle.std.specs.declared.cmp.Ordering.{Ordering}
+use Rattle.std.specs.declared.cmp.Ordering.TheVariants.{Less, Equal, Greater}
+use Rattle.std.specs.Cmp.{nat_cmp_is}
+use Rattle.std.specs.Ordering.{nat_cmp, MatchOrdering, ordering_then}
+use Rattle.std.proofs.lemmas.Cmp.{ranked}
+use Rattle.monomial.specs.Monomials.{monomial_cmp, top}
+use Rattle.sparse_poly.specs.declared.Term.{Term}
+use Rattle.sparse_poly.specs.Polynomials.{constant}
+use Rattle.sparse_poly.specs.Contributions.{higher, IsFalling, IsPoly}
+use Rattle.sparse_poly.specs.Reads.{main_variable}
+use Rattle.sparse_poly.specs.Order.{poly_cmp}
+
+drop_end : (xs : List Term) (k : ℕ) → k ≡ length xs → drop k xs ≡ []
+drop_end xs k e = ap (λ n. drop n xs) e ∙ all xs
+  where
+    all : (xs : List Term) → drop (length xs) xs ≡ []
+    all [] = refl
+    all (x ∷ xs) = all xs
+
+none_first : (ys : List Term) → poly_cmp [] ys ≡ nat_cmp 0 (length ys)
+none_first [] = refl
+none_first (y ∷ ys) = nat_cmp_is 0 (length (y ∷ ys)) Less (omega arith)
+
+none_second : (xs : List Term) → poly_cmp xs [] ≡ nat_cmp (length xs) 0
+none_second [] = refl
+none_second (x ∷ xs) = nat_cmp_is (length (x ∷ xs)) 0 Greater (omega arith)
+
+shifted : (a b c d k : ℕ) → c ≡ a + k → d ≡ b + k → nat_cmp a b ≡ nat_cmp c d
+shifted a b c d k e f = nat_cmp_is c d (nat_cmp a b) (each (nat_cmp a b) (ranked a b (nat_cmp a b) refl))
+  where
+    each : (o : Ordering) → MatchOrdering o (a < b) (a ≡ b) (b < a) → MatchOrdering o (c < d) (c ≡ d) (d < c)
+    each Less h = omega arith
+    each Equal h = omega arith
+    each Greater h = omega arith
+
+-- where one of two lists has ended, their lengths decide
+pub ended_first : (xs ys : List Term) (k : ℕ) → k ≡ length xs → k ≤ length ys → poly_cmp (drop k xs) (drop k ys) ≡ nat_cmp (length xs) (length ys)
+ended_first xs ys k e l =
+    ap (λ zs. poly_cmp zs (drop k ys)) (drop_end xs k e) ∙ none_first (drop k ys) ∙ shifted 0 (length (drop k ys)) (length xs) (length ys) k (omega arith) (omega (arith, length-drop k ys))
+
+pub ended_second : (xs ys : List Term) (k : ℕ) → k ≤ length xs → k ≡ length ys → poly_cmp (drop k xs) (drop k ys) ≡ nat_cmp (length xs) (length ys)
+ended_second xs ys k l e =
+    ap (λ zs. poly_cmp (drop k xs) zs) (drop_end ys k e) ∙ none_second (drop k xs) ∙ shifted (length (drop k xs)) 0 (length xs) (length ys) k (omega (arith, length-drop k xs)) (omega arith)
+
+-- a lower monomial has no greater variable
+no_higher : (m n : List (ℕ × ℕ)) → monomial_cmp n m ≡ Less → higher (top m) (top n) ≡ top m
+no_higher [] [] e = refl
+no_higher [] (q ∷ qs) e = absurd (cc e)
+no_higher (p ∷ ps) [] e = refl
+no_higher (p ∷ ps) (q ∷ qs) e = first (nat_cmp q.0 p.0) (ranked q.0 p.0 (nat_cmp q.0 p.0) refl) e
+  where
+    kept : q.0 ≤ p.0 → Some (if nat_lt p.0 q.0 then q.0 else p.0) ≡ Some p.0
+    kept l = grind (arith, nat_tests)
+
+    first : (o : Ordering) → MatchOrdering o (q.0 < p.0) (q.0 ≡ p.0) (p.0 < q.0) → ordering_then (ordering_then o (nat_cmp q.1 p.1)) (monomial_cmp qs ps) ≡ Less → Some (if nat_lt p.0 q.0 then q.0 else p.0) ≡ Some p.0
+    first Less m e = kept (omega arith)
+    first Equal m e = kept (omega arith)
+    first Greater m e = absurd (cc e)
+
+higher_all : (t : Term) (ts : List Term) → AllByRecursion (λ (u : Term). monomial_cmp u.monomial t.monomial ≡ Less) ts → higher (top t.monomial) (main_variable ts) ≡ top t.monomial
+higher_all t [] h = none (top t.monomial)
+  where
+    none : (o : Option ℕ) → higher o None ≡ o
+    none None = refl
+    none (Some v) = refl
+higher_all t (u ∷ us) h =
+    sym (assoc (top t.monomial) (top u.monomial) (main_variable us)) ∙ ap (λ o. higher o (main_variable us)) (no_higher t.monomial u.monomial h.0) ∙ higher_all t us h.1
+  where
+    greatest : (u v w : ℕ) → (if nat_lt (if nat_lt u v then v else u) w then w else (if nat_lt u v then v else u)) ≡ (if nat_lt u (if nat_lt v w then w else v) then (if nat_lt v w then w else v) else u)
+    greatest u v w = grind (arith, nat_tests)
+
+    assoc : (a b c : Option ℕ) → higher (higher a b) c ≡ higher a (higher b c)
+    assoc None b c = refl
+    assoc (Some u) None c = refl
+    assoc (Some u) (Some v) None = refl
+    assoc (Some u) (Some v) (Some w) = ap Some (greatest u v w)
+
+-- the greatest variable is that of the leading term
+pub main_variable-leading : (t : Term) (ts : List Term) → IsFalling (t ∷ ts) → main_variable (t ∷ ts) ≡ top t.monomial
+main_variable-leading t ts h = higher_all t ts h.0
+
+pub main_of_first : (xs : List Term) (t : Term) → Some t ≡ slice_get xs 0 → IsFalling xs → top t.monomial ≡ main_variable xs
+main_of_first [] t e h = absurd (cc e)
+main_of_first (x ∷ xs) t e h = let same : t ≡ x = cc e in ap (λ (u : Term). top u.monomial) same ∙ sym (main_variable-leading x xs h)
+
+-- the constant polynomial of a nonzero number
+pub constant_is : (c : ℤ) → c ≢ pos 0 → constant c ≡ (let t : Term = record { monomial = []; coeff = c } in t) ∷ []
+constant_is (pos zero) n = absurd (n refl)
+constant_is (pos (suc k)) n = refl
+constant_is (negsuc k) n = refl
+
+no_top : (m : List (ℕ × ℕ)) → top m ≡ None → m ≡ []
+no_top [] e = refl
+no_top (p ∷ ps) e = absurd (cc e)
+
+below_one : (ts : List Term) → AllByRecursion (λ (u : Term). monomial_cmp u.monomial [] ≡ Less) ts → ts ≡ []
+below_one [] h = refl
+below_one (t ∷ ts) h = absurd (never t.monomial h.0)
+  where
+    never : (m : List (ℕ × ℕ)) → monomial_cmp m [] ≡ Less → ⊥
+    never [] e = cc e
+    never (p ∷ ps) e = cc e
+
+-- where the leading term has no variable, the polynomial is constant
+pub constant_of_first : (xs : List Term) (t : Term) → Some t ≡ slice_get xs 0 → IsPoly xs → top t.monomial ≡ None → xs ≡ constant t.coeff
+constant_of_first [] t e h n = absurd (cc e)
+constant_of_first (x ∷ xs) t e h n =
+    let same : t ≡ x = cc e in
+    let one : x.monomial ≡ [] = no_top x.monomial (ap (λ (u : Term). top u.monomial) (sym same) ∙ n) in
+    let rest : xs ≡ [] = below_one xs (subst (λ m. AllByRecursion (λ (u : Term). monomial_cmp u.monomial m ≡ Less) xs) one h.falling.0) in
+    ap (λ ys. x ∷ ys) rest ∙ ap (λ y. y ∷ []) (ap (λ m. let u : Term = record { monomial = m; coeff = x.coeff } in u) one) ∙ sym (constant_is x.coeff h.apart.0) ∙ ap (λ (u : Term). constant u.coeff) (sym same)

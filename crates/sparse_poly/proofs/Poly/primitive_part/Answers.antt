@@ -1,0 +1,16 @@
+use Rattle.std.proofs.Common.{rules, ◌≡◌, to_z, of_z}
+use Rattle.std.specs.Int.{w128}
+use Rattle.sparse_poly.specs.Contributions.{IsPoly}
+use Rattle.sparse_poly.proofs.Strips.{IsPrimitivePart-quotient, IsPoly-primitive}
+use Rattle.sparse_poly.proofs.Poly.primitive_part.Goals as goal
+
+pub invariant_of-result : goal.invariant_of-result
+invariant_of-result c =
+    let same : to_z w128 (of_z w128 c.content_of.result) ≡ c.content_of.result = search rules in
+    let poly : IsPoly c.terms-terms.result.now = rw c.terms-terms.ensures.value c.terms-terms.ensures.poly in
+    IsPoly-primitive c.terms-terms.result.now c.one-one.result c.content_of.result _ c.one-one.ensures poly c.content_of.ensures (rw same at c.in_ok-rest.ensures)
+
+pub returns : goal.returns
+returns c =
+    let same : to_z w128 (of_z w128 c.content_of.result) ≡ c.content_of.result = search rules in
+    rw (← c.terms-terms.ensures.value) (IsPrimitivePart-quotient c.terms-terms.result.now c.one-one.result c.content_of.result _ c.one-one.ensures c.content_of.ensures (rw same at c.in_ok-rest.ensures))

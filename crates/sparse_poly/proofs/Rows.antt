@@ -1,0 +1,160 @@
+-- The contributions of one term in order, the contributions that are handed in, and the sum of two polynomials.
+use Rattle.std.specs.Prelude.{reverse, ◌≡◌, ◌<◌, ℕ, zero, suc, ◌+◌, ℤ, pos, ◌+ℤ◌, ◌*ℤ◌, unsigned_abs, List, [], ◌∷◌, ◌++◌, length, slice_index_or, take, refl}
+use mathlib.Core.Logic.{inl, inr}
+use Rattle.std.proofs.Common.{arith, sym, ◌∙◌, ap, subst}
+use Rattle.std.proofs.lemmas.Int.{ints}
+use Rattle.std.specs.List.{AllByRecursion}
+use Rattle.std.specs.declared.option.Option.{Option}
+use Rattle.std.specs.declared.option.Option.TheVariants.{None, Some}
+use Rattle.std.specs.declared.cmp.Ordering.TheVariants.{Less}
+use Rattle.monomial.specs.Monomials.{monomial_cmp, monomial_times, IsMonomial, IsPowers}
+use Rattle.monomial.proofs.Exponents.{too_high-IsMonomial}
+use Rattle.monomial.proofs.Lower.{monomial_cmp-times}
+use Rattle.sparse_poly.specs.declared.Term.{Term}
+use Rattle.sparse_poly.specs.declared.entry.Share.{Share}
+use Rattle.sparse_poly.specs.declared.PolyFault.{PolyFault}
+use Rattle.sparse_poly.specs.declared.PolyFault.TheVariants.{Degree, Heavy, OutOfMemory}
+use Rattle.sparse_poly.specs.Polynomials.{coefficient, weight, row}
+use Rattle.sparse_poly.specs.Contributions.{higher, degree_of, IsFalling, IsNoDegree}
+use Rattle.sparse_poly.specs.Standing.{ssum, sweight, Agree, Stands, AllAbove, IsRising, IsDescending, IsAdded, AllMonomials, IsHeavyFault, IsMerged}
+use Rattle.sparse_poly.proofs.Adding.{take_one, degree_of-append}
+use Rattle.sparse_poly.proofs.Evaluation.{coefficient-append, weight-append}
+use Rattle.sparse_poly.proofs.Sums.{ssum-append, sweight-append}
+use Rattle.sparse_poly.proofs.Standings.{agree_plus, agree_through, same_agrees, Stands-one}
+use Rattle.sparse_poly.proofs.Rising.{all_front, all_back, all_last, all_more, descending_more, IsRising-reverse}
+
+pub all_at : (P : Term → Type 0) (us : List Term) (k : ℕ) (u : Term) → k < length us → u ≡ slice_index_or us k u → AllByRecursion P us → P u
+all_at P [] k u l e h = absurd (omega arith)
+all_at P (x ∷ xs) zero u l e h = subst P (sym e) h.0
+all_at P (x ∷ xs) (suc k) u l e h = all_at P xs k u (omega arith) e h.1
+
+-- the terms before a term of a falling list are above it
+before_above : (us : List Term) (k : ℕ) (u : Term) → k < length us → u ≡ slice_index_or us k u → IsFalling us → AllByRecursion (λ (w : Term). monomial_cmp u.monomial w.monomial ≡ Less) (take k us)
+before_above [] k u l e h = absurd (omega arith)
+before_above (x ∷ xs) zero u l e h = tt
+before_above (x ∷ xs) (suc k) u l e h =
+    (all_at (λ (w : Term). monomial_cmp w.monomial x.monomial ≡ Less) xs k u (omega arith) e h.0, before_above xs k u (omega arith) e h.1)
+
+-- the shares of the first k terms of a row fall, and what is below these terms gives what is below the shares
+pub record IsOrderedRow (t : Term) (us : List Term) (k : ℕ) (ss : List Share) : Type 0 where
+  pub falling : IsDescending ss
+  pub above : (m : List (ℕ × ℕ)) → IsPowers m → AllByRecursion (λ (w : Term). monomial_cmp m w.monomial ≡ Less) (take k us) → AllAbove (monomial_times t.monomial m) ss
+
+pub OrderedRow : Term → List Term → ℕ → List Share → Type 0
+OrderedRow t us k ss = IsMonomial t.monomial → AllMonomials us → IsFalling us → IsOrderedRow t us k ss
+
+pub OrderedRow-start : (t : Term) (us : List Term) → OrderedRow t us 0 []
+unfolding OrderedRow
+OrderedRow-start t us h i f = record { falling = tt; above = λ m p a. tt }
+
+pub OrderedRow-more : (t : Term) (us : List Term) (k : ℕ) (u : Term) (ss zs : List Share) → k < length us → u ≡ slice_index_or us k u → OrderedRow t us k ss → IsAdded t u ss zs → OrderedRow t us (k + 1) zs
+unfolding OrderedRow
+OrderedRow-more t us k u ss zs l e o a h i f = each (o h i f) a
+  where
+    longer : take (k + 1) us ≡ take k us ++ u ∷ []
+    longer = take_one us k u l e
+
+    split : (m : List (ℕ × ℕ)) → AllByRecursion (λ (w : Term). monomial_cmp m w.monomial ≡ Less) (take (k + 1) us) → AllByRecursion (λ (w : Term). monomial_cmp m w.monomial ≡ Less) (take k us ++ u ∷ [])
+    split m b = subst (AllByRecursion (λ (w : Term). monomial_cmp m w.monomial ≡ Less)) longer b
+
+    own : IsPowers u.monomial
+    own = (all_at (λ (w : Term). IsMonomial w.monomial) us k u l e i).powers
+
+    each : IsOrderedRow t us k ss → IsAdded t u ss zs → IsOrderedRow t us (k + 1) zs
+    each r (inl same) = record {
+      falling = subst IsDescending (sym same) r.falling;
+      above = λ m p b. subst (AllAbove (monomial_times t.monomial m)) (sym same) (r.above m p (all_front _ (take k us) (u ∷ []) (split m b)));
+    }
+    each r (inr (s, added, at)) = record {
+      falling = subst IsDescending (sym added) (descending_more ss s r.falling (subst (λ n. AllAbove n ss) (sym at) (r.above u.monomial own (before_above us k u l e f))));
+      above = λ m p b. subst (AllAbove (monomial_times t.monomial m)) (sym added)
+          (all_more (λ (x : Share). monomial_cmp (monomial_times t.monomial m) x.monomial ≡ Less) ss s (r.above m p (all_front _ (take k us) (u ∷ []) (split m b)))
+          (ap (monomial_cmp (monomial_times t.monomial m)) at ∙ monomial_cmp-times t.monomial m u.monomial h.powers p own (all_last _ (take k us) u (split m b))));
+    }
+
+pub OrderedRow-end : (t : Term) (us : List Term) (k : ℕ) (ss zs : List Share) → OrderedRow t us k ss → zs ≡ reverse ss → IsMonomial t.monomial → AllMonomials us → IsFalling us → IsRising zs
+unfolding OrderedRow
+OrderedRow-end t us k ss zs o e h i f = subst IsRising (sym e) (IsRising-reverse ss (o h i f).falling)
+
+-- contributions that are handed in: some are shares, and the others are left
+pub record Gathered (cs rest : List Term) (ss : List Share) : Type 0 where
+  pub sums : (m : List (ℕ × ℕ)) → Agree (sweight ss m + weight rest m) (ssum ss m +ℤ coefficient rest m) (weight cs m) (coefficient cs m)
+  pub degree : degree_of cs ≡ degree_of rest
+
+pub Gathered-start : (cs : List Term) → Gathered cs cs []
+Gathered-start cs = record { sums = λ m. inl (omega arith, plain (coefficient cs m)); degree = refl }
+  where
+    plain : (z : ℤ) → pos 0 +ℤ z ≡ z
+    plain z = omega (arith, ints)
+
+pub Gathered-more : (cs rest left : List Term) (ss zs : List Share) (t : Term) (s : Share) → Gathered cs rest ss → rest ≡ left ++ t ∷ [] → zs ≡ ss ++ s ∷ [] → s.monomial ≡ t.monomial → Agree s.weight s.sum (unsigned_abs t.coeff) t.coeff → IsMonomial t.monomial → Gathered cs left zs
+Gathered-more cs rest left ss zs t s g e f i a h = record {
+  sums = λ m. agree_through _ _ _ _ _ _
+      (same_agrees _ _ _ _ (ap (λ xs. sweight xs m + weight left m) f ∙ ap (λ n. n + weight left m) (sweight-append m ss (s ∷ [])) ∙ turned (sweight ss m) (sweight (s ∷ []) m) (weight left m))
+      (ap (λ xs. ssum xs m +ℤ coefficient left m) f ∙ ap (λ n. n +ℤ coefficient left m) (ssum-append m ss (s ∷ [])) ∙ turned_sum (ssum ss m) (ssum (s ∷ []) m) (coefficient left m)))
+      (agree_through _ _ _ _ _ _
+      (agree_plus _ _ _ _ _ _ _ _ (inl (refl, refl)) (agree_plus _ _ _ _ _ _ _ _ (inl (refl, refl)) (Stands-one s t i a m)))
+      (agree_through _ _ _ _ _ _
+      (same_agrees _ _ _ _ (ap (λ n. sweight ss m + n) (sym (ap (λ xs. weight xs m) e ∙ weight-append m left (t ∷ []))))
+      (ap (λ n. ssum ss m +ℤ n) (sym (ap (λ xs. coefficient xs m) e ∙ coefficient-append m left (t ∷ [])))))
+      (g.sums m)));
+  degree = g.degree ∙ ap degree_of e ∙ degree_of-append left (t ∷ []) ∙ ap (λ o. higher (degree_of left) (higher o None)) (too_high-IsMonomial t.monomial h) ∙ none_right (degree_of left);
+}
+  where
+    turned : (a b c : ℕ) → (a + b) + c ≡ a + (c + b)
+    turned a b c = omega arith
+
+    turned_sum : (a b c : ℤ) → (a +ℤ b) +ℤ c ≡ a +ℤ (c +ℤ b)
+    turned_sum a b c = omega (arith, ints)
+
+    none_right : (o : Option ℕ) → higher o None ≡ o
+    none_right None = refl
+    none_right (Some v) = refl
+
+pub Gathered-end : (cs rest : List Term) (ss : List Share) → Gathered cs rest ss → rest ≡ [] → Stands ss cs × (degree_of cs ≡ None)
+Gathered-end cs rest ss g e = (λ m. agree_through _ _ _ _ _ _ (same_agrees _ _ _ _ (plain (sweight ss m) ∙ ap (λ xs. sweight ss m + weight xs m) (sym e)) (plain_sum (ssum ss m) ∙ ap (λ xs. ssum ss m +ℤ coefficient xs m) (sym e))) (g.sums m), g.degree ∙ ap degree_of e)
+  where
+    plain : (a : ℕ) → a ≡ a + 0
+    plain a = omega arith
+
+    plain_sum : (a : ℤ) → a ≡ a +ℤ pos 0
+    plain_sum a = omega (arith, ints)
+
+-- a polynomial is the row of the term 1 with it
+pub row_one : (ps : List Term) → row (record { monomial = []; coeff = pos 1 }) ps ≡ ps
+row_one [] = refl
+row_one (p ∷ ps) = ap (λ c. (let t : Term = record { monomial = p.monomial; coeff = c } in t) ∷ row (record { monomial = []; coeff = pos 1 }) ps) (once p.coeff) ∙ ap (λ ts. p ∷ ts) (row_one ps)
+  where
+    once : (z : ℤ) → pos 1 *ℤ z ≡ z
+    once z = omega (arith, ints)
+
+pub degree_of-monomials : (ps : List Term) → AllMonomials ps → degree_of ps ≡ None
+degree_of-monomials [] h = refl
+degree_of-monomials (p ∷ ps) h = ap (λ o. higher o (degree_of ps)) (too_high-IsMonomial p.monomial h.0) ∙ degree_of-monomials ps h.1
+
+pub no_degree : (ss : List Share) (e : PolyFault) → IsHeavyFault ss e → IsNoDegree e
+no_degree ss (Degree v) h = h
+no_degree ss (Heavy m) h = tt
+no_degree ss OutOfMemory h = tt
+
+-- a product with 1
+pub Agree-once : (w : ℕ) (z c : ℤ) → Agree w z (unsigned_abs (c *ℤ pos 1)) (c *ℤ pos 1) → Agree w z (unsigned_abs c) c
+Agree-once w z c a = subst (λ y. Agree w z (unsigned_abs y) y) (once c) a
+  where
+    once : (z : ℤ) → z *ℤ pos 1 ≡ z
+    once z = omega (arith, ints)
+
+-- the rows of two parts of a list of terms, merged
+pub halves_order : (ts us xs ys : List Term) (fs bs zs : List Share) → ts ≡ xs ++ ys → (AllMonomials xs → AllMonomials us → IsFalling us → IsRising fs) → (AllMonomials ys → AllMonomials us → IsFalling us → IsRising bs) → IsMerged fs bs zs → AllMonomials ts → AllMonomials us → IsFalling us → IsRising zs
+halves_order ts us xs ys fs bs zs e f b m h i o =
+    let both : AllMonomials (xs ++ ys) = subst AllMonomials e h in
+    m.rising (f (all_front _ xs ys both) i o) (b (all_back _ xs ys both) i o)
+
+-- the degree of a sum of two polynomials
+pub degree_of-sum : (ps qs : List Term) → AllMonomials ps → AllMonomials qs → degree_of (ps ++ qs) ≡ None
+degree_of-sum ps qs h i = degree_of-append ps qs ∙ ap (λ o. higher o (degree_of qs)) (degree_of-monomials ps h) ∙ degree_of-monomials qs i
+
+pub Stands-row_one : (ps : List Term) (m : List (ℕ × ℕ)) (ss : List Share) (high : Option ℕ) → m ≡ [] → high ≡ degree_of (row (record { monomial = m; coeff = pos 1 }) ps) → AllMonomials ps → (high ≡ None → Stands ss (row (record { monomial = m; coeff = pos 1 }) ps)) → Stands ss ps
+Stands-row_one ps m ss high e f h st =
+    let same : row (record { monomial = m; coeff = pos 1 }) ps ≡ ps = ap (λ n. row (record { monomial = n; coeff = pos 1 }) ps) e ∙ row_one ps in
+    subst (Stands ss) same (st (f ∙ ap degree_of same ∙ degree_of-monomials ps h))

@@ -1,0 +1,106 @@
+-- Shares: sums of contributions to one monomial, and what they stand for.
+use Rattle.std.specs.Prelude.{◌≡◌, ◌<◌, ◌≤◌, ℕ, ◌+◌, ◌⊎◌, if◌then◌else◌, ℤ, pos, ◌+ℤ◌, List, [], ◌∷◌, ◌++◌, length}
+use Rattle.std.specs.List.{AllByRecursion}
+use Rattle.std.specs.Ordering.{is_eq}
+use Rattle.std.specs.declared.cmp.Ordering.TheVariants.{Less}
+use Rattle.std.specs.declared.option.Option.{Option}
+use Rattle.std.specs.declared.option.Option.TheVariants.{None, Some}
+use Rattle.monomial.specs.Monomials.{monomial_cmp, monomial_times, IsMonomial}
+use Rattle.sparse_poly.specs.declared.entry.Share.{Share}
+use Rattle.sparse_poly.specs.declared.Term.{Term}
+use Rattle.sparse_poly.specs.declared.merging.End.{End}
+use Rattle.sparse_poly.specs.declared.merging.End.TheVariants.{Neither, First, Second, Both}
+use Rattle.sparse_poly.specs.Polynomials.{coefficient, weight}
+use Rattle.sparse_poly.specs.Contributions.{max_coeff, IsPoly}
+use Rattle.sparse_poly.specs.declared.PolyFault.{PolyFault}
+use Rattle.sparse_poly.specs.declared.PolyFault.TheVariants.{Degree, Heavy, OutOfMemory}
+
+-- the sum of the shares of a monomial, and that of their weights
+abbrev pub ssum : List Share → List (ℕ × ℕ) → ℤ
+ssum [] m = pos 0
+ssum (t ∷ ts) m = (if is_eq (monomial_cmp m t.monomial) then t.sum else pos 0) +ℤ ssum ts m
+
+abbrev pub sweight : List Share → List (ℕ × ℕ) → ℕ
+sweight [] m = 0
+sweight (t ∷ ts) m = (if is_eq (monomial_cmp m t.monomial) then t.weight else 0) + sweight ts m
+
+-- two sums with their weights: the same, or both too heavy
+abbrev pub Agree : ℕ → ℤ → ℕ → ℤ → Type 0
+Agree w z v y = ((w ≡ v) × (z ≡ y)) ⊎ ((max_coeff < w) × (max_coeff < v))
+
+-- shares that stand for contributions
+abbrev pub Stands : List Share → List Term → Type 0
+Stands ss cs = (m : List (ℕ × ℕ)) → Agree (sweight ss m) (ssum ss m) (weight cs m) (coefficient cs m)
+
+-- shares that stand for those of two lists
+abbrev pub StandsForBoth : List Share → List Share → List Share → Type 0
+StandsForBoth ss xs ys = (m : List (ℕ × ℕ)) → Agree (sweight ss m) (ssum ss m) (sweight xs m + sweight ys m) (ssum xs m +ℤ ssum ys m)
+
+-- each share is below a monomial, and each is above one
+abbrev pub AllBelow : List (ℕ × ℕ) → List Share → Type 0
+AllBelow m xs = AllByRecursion (λ (x : Share). monomial_cmp x.monomial m ≡ Less) xs
+
+abbrev pub AllAbove : List (ℕ × ℕ) → List Share → Type 0
+AllAbove m xs = AllByRecursion (λ (x : Share). monomial_cmp m x.monomial ≡ Less) xs
+
+-- the monomials rise strictly, and they fall strictly
+abbrev pub IsRising : List Share → Type 0
+IsRising [] = Unit {0}
+IsRising (x ∷ xs) = AllAbove x.monomial xs × IsRising xs
+
+abbrev pub IsDescending : List Share → Type 0
+IsDescending [] = Unit {0}
+IsDescending (x ∷ xs) = AllBelow x.monomial xs × IsDescending xs
+
+-- what is left of two rising lists, once their greatest share s was taken
+pub record IsTaken (xs ys us vs : List Share) (s : Share) : Type 0 where
+  pub shorter : length us + length vs < length xs + length ys
+  pub sums : (m : List (ℕ × ℕ)) → Agree (sweight (s ∷ []) m + (sweight us m + sweight vs m)) (ssum (s ∷ []) m +ℤ (ssum us m +ℤ ssum vs m)) (sweight xs m + sweight ys m) (ssum xs m +ℤ ssum ys m)
+  pub rising : IsRising xs → IsRising ys → IsRising us × IsRising vs × AllBelow s.monomial us × AllBelow s.monomial vs
+  pub bounded : (k : List (ℕ × ℕ)) → AllBelow k xs → AllBelow k ys → AllBelow k us × AllBelow k vs × (monomial_cmp s.monomial k ≡ Less)
+
+-- the next share of two lists
+abbrev pub IsNext : List Share → List Share → List Share → List Share → Option Share → Type 0
+IsNext xs ys us vs (Some s) = IsTaken xs ys us vs s
+IsNext xs ys us vs None = (xs ≡ []) × (ys ≡ [])
+
+-- which of two lists has the greatest share at its end
+abbrev pub IsEnd : List Share → List Share → End → Type 0
+IsEnd xs ys Neither = (xs ≡ []) × (ys ≡ [])
+IsEnd xs ys First = (0 < length xs) × ((us : List Share) (x : Share) → xs ≡ us ++ x ∷ [] → IsRising ys → AllBelow x.monomial ys)
+IsEnd xs ys Second = (0 < length ys) × ((vs : List Share) (y : Share) → ys ≡ vs ++ y ∷ [] → IsRising xs → AllBelow y.monomial xs)
+IsEnd xs ys Both = (0 < length xs) × (0 < length ys) × ((us vs : List Share) (x y : Share) → xs ≡ us ++ x ∷ [] → ys ≡ vs ++ y ∷ [] → x.monomial ≡ y.monomial)
+
+-- rising shares that add up to the same sums
+pub record IsSorted (xs ss : List Share) : Type 0 where
+  pub same : (m : List (ℕ × ℕ)) → Agree (sweight ss m) (ssum ss m) (sweight xs m) (ssum xs m)
+  pub rising : IsRising ss
+
+-- rising shares that add up to the sums of two lists
+pub record IsMerged (xs ys ss : List Share) : Type 0 where
+  pub both : StandsForBoth ss xs ys
+  pub rising : IsRising xs → IsRising ys → IsRising ss
+
+-- each monomial of a polynomial's terms is one
+abbrev pub AllMonomials : List Term → Type 0
+AllMonomials ts = AllByRecursion (λ (t : Term). IsMonomial t.monomial) ts
+
+-- the product of two terms was added to shares, or not
+abbrev pub IsAdded : Term → Term → List Share → List Share → Type 0
+IsAdded t u old new = (new ≡ old) ⊎ ((s : Share) × (new ≡ old ++ s ∷ []) × (s.monomial ≡ monomial_times t.monomial u.monomial))
+
+-- the shares of a polynomial that is light
+pub record IsLightSum (ds : List Share) (p : List Term) : Type 0 where
+  pub light : (m : List (ℕ × ℕ)) → sweight ds m ≤ max_coeff
+  pub sums : (m : List (ℕ × ℕ)) → coefficient p m ≡ ssum ds m
+  pub poly : IsPoly p
+
+-- the greatest monomial to which shares are heavy
+pub record IsHeaviestShare (ds : List Share) (m : List (ℕ × ℕ)) : Type 0 where
+  pub heavy : max_coeff < sweight ds m
+  pub greatest : (k : List (ℕ × ℕ)) → monomial_cmp m k ≡ Less → sweight ds k ≤ max_coeff
+
+abbrev pub IsHeavyFault : List Share → PolyFault → Type 0
+IsHeavyFault ds (Degree v) = ⊥
+IsHeavyFault ds (Heavy m) = IsHeaviestShare ds m
+IsHeavyFault ds OutOfMemory = Unit {0}

@@ -1,0 +1,334 @@
+//! Polynomials in several variables with whole coefficients, seen as finite maps from monomials to coefficients.
+#![tactic(auto)]
+
+ghost use Rattle.std.specs.Prelude.{◌≡◌, ◌<◌, ◌≤◌, ℕ, ◌+◌, ℤ, pos, unsigned_abs, Bool, IsTrue, ◌↔◌, List, [], ◌∷◌, ◌++◌, IfOk, IfErr, MatchOption, MatchResult, IsSome};
+ghost use Rattle.std.specs.List.{Contains};
+ghost use Rattle.std.specs.declared.option.Option.TheVariants.{None, Some};
+ghost use Rattle.sparse_poly.specs.Polynomials.{products, constant, variable};
+ghost use Rattle.sparse_poly.specs.Contributions.{max_coeff, contributions, IsPoly, IsResult, IsFault, IsNoDegree};
+ghost use Rattle.sparse_poly.specs.Order.{poly_cmp, term_cmp};
+ghost use Rattle.sparse_poly.specs.Primitive.{IsPrimitivePart};
+ghost use Rattle.sparse_poly.specs.Units.{IsStripped, IsOneOrMember, IsUnit};
+ghost use Rattle.sparse_poly.specs.Reads.{degree_in, main_variable, coefficient_of_power};
+
+mod entry;
+pub mod laws;
+mod merging;
+mod multiplying;
+mod squeezing;
+mod stripping;
+
+pub use laws::{
+    combined_law, primitive_law, product_law, strip_law, subtraction_law, sum_law, unit_law,
+};
+use monomial::Monomial;
+use multiplying::{added, combined, multiplied, summed};
+use std::alloc::{AllocError, AllocFailed, Global};
+use std::cmp::Ordering;
+use std::marker::Model;
+use stripping::{content_of, is_member, quotients, same_terms, terms_of_power, unit_monomial};
+
+/// A monomial with its coefficient.
+#[derive(Drop)]
+pub struct Term {
+    pub monomial: Monomial,
+    pub coeff: i128,
+}
+
+/// A polynomial, seen as the list of its terms from the greatest monomial to the least. No coefficient is 0, and each has an absolute value of at most 2^127 - 1.
+#[derive(Drop)]
+pub struct Poly {
+    terms: Vec<Term>,
+}
+
+impl Model for Poly {
+    ghost use Rattle.std.specs.Prelude.{List};
+    ghost use Rattle.sparse_poly.specs.declared.Term.{Term};
+    ghost use Rattle.sparse_poly.specs.Contributions.{IsPoly};
+
+    ghost Value = { List Term };
+
+    ghost view = { λ p. p.terms.items };
+
+    ghost invariant = { λ p. IsPoly p.terms.items };
+}
+
+/// Why a sum or a product is not made.
+#[derive(Drop)]
+pub enum PolyFault {
+    /// A contribution has an exponent above 65,535. This is the greatest such variable.
+    Degree { var: u32 },
+    /// The absolute values of all contributions to a monomial add up to more than 2^127 - 1. This is the greatest such monomial.
+    Heavy { monomial: Monomial },
+    /// No memory was left.
+    OutOfMemory,
+}
+
+impl From<AllocError> for PolyFault {
+    ghost use Rattle.std.specs.Prelude.{◌≡◌};
+    ghost use Rattle.sparse_poly.specs.declared.PolyFault.TheVariants.{OutOfMemory};
+
+    ghost from_gives = { λ _ e. e ≡ OutOfMemory };
+
+    fn from(_: AllocError) -> PolyFault {
+        PolyFault::OutOfMemory
+    }
+}
+
+impl<T: Drop> From<AllocFailed<T>> for PolyFault {
+    ghost use Rattle.std.specs.Prelude.{◌≡◌};
+    ghost use Rattle.sparse_poly.specs.declared.PolyFault.TheVariants.{OutOfMemory};
+
+    ghost from_gives = { λ _ e. e ≡ OutOfMemory };
+
+    fn from(_: AllocFailed<T>) -> PolyFault {
+        PolyFault::OutOfMemory
+    }
+}
+
+/// A polynomial as a factor times a rest.
+#[derive(Drop)]
+pub struct Stripped {
+    pub factor: Poly,
+    pub rest: Poly,
+}
+
+impl Poly {
+    /// The polynomial zero, which has no terms.
+    pub fn zero(alloc: Global) -> Poly
+        ensures { result ≡ [] }
+    {
+        Poly {
+            terms: Vec::new(alloc),
+        }
+    }
+
+    /// The constant polynomial of a number. It fails only where no memory is left.
+    pub fn constant(alloc: Global, n: i128) -> Result<Poly, AllocError>
+        requires { unsigned_abs n ≤ max_coeff }
+        ensures { IfOk result (λ p. p ≡ constant n) }
+    {
+        let mut terms = Vec::new(alloc);
+        if n != 0 {
+            terms.push(Term {
+                monomial: Monomial::one(alloc),
+                coeff: n,
+            })?;
+        }
+        Ok(Poly { terms })
+    }
+
+    /// The polynomial of a variable. It fails only where no memory is left.
+    pub fn variable(alloc: Global, var: u32) -> Result<Poly, AllocError>
+        ensures { IfOk result (λ p. p ≡ variable var) }
+    {
+        let monomial = Monomial::power(alloc, var, 1)?;
+        let mut terms = Vec::new(alloc);
+        terms.push(Term { monomial, coeff: 1 })?;
+        Ok(Poly { terms })
+    }
+
+    /// An equal polynomial. It fails only where no memory is left.
+    pub fn copy(&self) -> Result<Poly, AllocError>
+        ensures { IfOk result (λ p. p ≡ self.now) }
+    {
+        let terms = same_terms(*self.terms.allocator(), &self.terms)?;
+        Ok(Poly { terms })
+    }
+
+    /// The polynomial that these terms add up to. `Heavy` comes exactly where the absolute values of the coefficients of a monomial add up to
+    /// more than 2^127 - 1, with the greatest such monomial. `Degree` never comes, since no monomial has an exponent above 65,535.
+    pub fn from_terms(alloc: Global, terms: Vec<Term>) -> Result<Poly, PolyFault>
+        ensures answer { MatchResult result (IsResult terms.items) (IsFault terms.items) }
+        ensures degree { IfErr result IsNoDegree }
+    {
+        let terms = summed(alloc, terms)?;
+        Ok(Poly { terms })
+    }
+
+    /// The terms, from the greatest monomial to the least.
+    pub fn terms(&self) -> &[Term]
+        ensures value { result.now ≡ self.now }
+        ensures poly { IsPoly self.now }
+    {
+        &self.terms
+    }
+
+    /// Whether this is the constant polynomial 1.
+    pub fn is_one(&self) -> bool
+        ensures { IsTrue result ↔ (self.now ≡ constant (pos 1)) }
+    {
+        matches!(self.constant_value(), Some(1))
+    }
+
+    /// Whether this is the polynomial zero.
+    pub fn is_zero(&self) -> bool
+        ensures { IsTrue result ↔ (self.now ≡ []) }
+    {
+        self.terms.is_empty()
+    }
+
+    /// The combination `l*q - a*p`. A contribution is the product of one term of each factor, with its sign. `Degree` comes exactly where a
+    /// contribution has an exponent above 65,535, with the greatest such variable. Otherwise `Heavy` comes exactly where the absolute values
+    /// of all contributions to a monomial add up to more than 2^127 - 1, even where they cancel, with the greatest such monomial.
+    pub fn combine(alloc: Global, l: &Poly, q: &Poly, a: &Poly, p: &Poly) -> Result<Poly, PolyFault>
+        ensures { MatchResult result (IsResult (contributions l.now q.now a.now p.now)) (IsFault (contributions l.now q.now a.now p.now)) }
+    {
+        let terms = combined(alloc, l.terms(), q.terms(), a.terms(), p.terms())?;
+        Ok(Poly { terms })
+    }
+
+    /// The product. Its contributions, `Degree` and `Heavy` are as for `combine`.
+    pub fn times(&self, other: &Poly) -> Result<Poly, PolyFault>
+        ensures { MatchResult result (IsResult (products self.now other.now)) (IsFault (products self.now other.now)) }
+    {
+        let terms = multiplied(*self.terms.allocator(), self.terms(), other.terms())?;
+        Ok(Poly { terms })
+    }
+
+    /// The sum. A contribution is a term of either summand, so `Heavy` comes exactly where the absolute values of the coefficients of a
+    /// monomial add up to more than 2^127 - 1, with the greatest such monomial, and `Degree` never comes.
+    pub fn plus(&self, other: &Poly) -> Result<Poly, PolyFault>
+        ensures answer { MatchResult result (IsResult (self.now ++ other.now)) (IsFault (self.now ++ other.now)) }
+        ensures degree { IfErr result IsNoDegree }
+    {
+        let terms = added(*self.terms.allocator(), self.terms(), other.terms())?;
+        Ok(Poly { terms })
+    }
+
+    /// The primitive part: the polynomial over its content, with a positive leading coefficient, and zero for zero. It fails only where no
+    /// memory is left.
+    pub fn primitive_part(&self) -> Result<Poly, AllocError>
+        ensures { IfOk result (λ q. IsPrimitivePart self.now q) }
+    {
+        let alloc = *self.terms.allocator();
+        let terms = self.terms();
+        let one = Monomial::one(alloc);
+        let rest = quotients(alloc, terms, &one, content_of(terms))?;
+        Ok(Poly { terms: rest })
+    }
+
+    /// The polynomial stripped under the units: made primitive, and then divided, as often as it divides, by each variable that is a member of
+    /// the units. The quotient is the rest, and the factor is what was divided out, sign included. Zero has the factor 1. It fails only where
+    /// no memory is left.
+    pub fn strip(&self, units: &[Poly]) -> Result<Stripped, AllocError>
+        ensures { IfOk result (λ s. IsStripped units.now self.now s.factor s.rest) }
+    {
+        let alloc = *self.terms.allocator();
+        let terms = self.terms();
+        let content = content_of(terms);
+        let monomial = unit_monomial(alloc, terms, units)?;
+        let rest = quotients(alloc, terms, &monomial, content)?;
+        let mut factor = Vec::new(alloc);
+        factor.push(Term {
+            monomial,
+            coeff: content,
+        })?;
+        Ok(Stripped {
+            factor: Poly { terms: factor },
+            rest: Poly { terms: rest },
+        })
+    }
+
+    /// Whether the rest of this polynomial under the units is the constant 1 or a member of the units. It fails only where no memory is left.
+    pub fn is_unit(&self, units: &[Poly]) -> Result<bool, AllocError>
+        ensures { IfOk result (λ b. IsTrue b ↔ IsUnit units.now self.now) }
+    {
+        let _terms = self.terms();
+        let stripped = self.strip(units)?;
+        Ok(is_one_or_member(units, &stripped.rest))
+    }
+
+    /// The coefficient of `var^exp`: the terms in which the variable has this exponent, without it. It fails only where no memory is left.
+    pub fn coefficient_in(&self, var: u32, exp: u32) -> Result<Poly, AllocError>
+        ensures { IfOk result (λ p. p ≡ coefficient_of_power var exp self.now) }
+    {
+        let terms = terms_of_power(*self.terms.allocator(), self.terms(), var, exp)?;
+        Ok(Poly { terms })
+    }
+
+    /// The order of polynomials: terms are compared from the greatest monomial down, first by monomial and then by coefficient, and a proper
+    /// prefix is below the longer list. Zero is the least.
+    pub fn order(&self, other: &Poly) -> Ordering
+        ensures { result ≡ poly_cmp self.now other.now }
+    {
+        order_terms(&self.terms, &other.terms)
+    }
+
+    /// The degree in a variable, which is 0 where it does not occur.
+    pub fn degree_in(&self, var: u32) -> u32
+        ensures { result ≡ degree_in var self.now }
+    {
+        greatest_exponent(&self.terms, var)
+    }
+
+    /// The main variable, which is the greatest that occurs, and `None` exactly for a constant.
+    pub fn main(&self) -> Option<u32>
+        ensures { result ≡ main_variable self.now }
+    {
+        match self.terms.first() {
+            Some(term) => term.monomial.top(),
+            None => None,
+        }
+    }
+
+    /// The number whose constant polynomial this is, and `None` exactly where a variable occurs.
+    pub fn constant_value(&self) -> Option<i128>
+        ensures { MatchOption result (IsSome (main_variable self.now)) (λ n. self.now ≡ constant n) }
+    {
+        match self.terms.first() {
+            Some(term) => match term.monomial.top() {
+                Some(_) => None,
+                None => Some(term.coeff),
+            },
+            None => Some(0),
+        }
+    }
+}
+
+// Whether a polynomial is the constant 1 or a member of a list.
+fn is_one_or_member(units: &[Poly], rest: &Poly) -> bool
+    ensures { IsTrue result ↔ IsOneOrMember units.now rest.now }
+{
+    if rest.is_one() {
+        return true;
+    }
+    is_member(units, rest)
+}
+
+// The order of two lists of terms.
+fn order_terms(first: &[Term], second: &[Term]) -> Ordering
+    ensures { result ≡ poly_cmp first.now second.now }
+{
+    let mut i = 0;
+    'terms: while i < first.len() && i < second.len() {
+        match order_term(&first[i], &second[i]) {
+            Ordering::Less => return Ordering::Less,
+            Ordering::Equal => i += 1,
+            Ordering::Greater => return Ordering::Greater,
+        }
+    }
+    first.len().cmp(&second.len())
+}
+
+// The order of two terms.
+fn order_term(first: &Term, second: &Term) -> Ordering
+    ensures { result ≡ term_cmp first.now second.now }
+{
+    match first.monomial.order(&second.monomial) {
+        Ordering::Less => Ordering::Less,
+        Ordering::Equal => first.coeff.cmp(&second.coeff),
+        Ordering::Greater => Ordering::Greater,
+    }
+}
+
+// The greatest exponent of a variable.
+fn greatest_exponent(terms: &[Term], var: u32) -> u32
+    ensures { result ≡ degree_in var terms.now }
+{
+    let mut degree = 0;
+    for term in terms {
+        degree = degree.max(term.monomial.exponent(var));
+    }
+    degree
+}

@@ -1,0 +1,4 @@
+pub mod Vanishing
+pub mod Low
+pub mod Listed
+pub mod Stages

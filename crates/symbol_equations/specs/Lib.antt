@@ -1,0 +1,4 @@
+pub mod Values
+pub mod Differences
+pub mod Contributions
+pub mod Trees
