@@ -1,0 +1,112 @@
+//! Polynomials as lists of terms that fall by their monomials, combined by halves with early sums.
+use crate::monomial::Monomial;
+use std::cmp::Ordering;
+
+/// A monomial with its coefficient.
+pub struct Term<M> {
+    pub monomial: M,
+    pub coeff: i128,
+}
+
+/// A sum of contributions to one monomial, with that of their absolute values. A weight above the limit stands for all those.
+pub struct Share<M> {
+    monomial: M,
+    sum: i128,
+    weight: u128,
+}
+
+/// Why a sum or a product is not made: an exponent is above 65,535, or the absolute values of the contributions to a monomial add up to more than 2^127 - 1.
+pub struct Fault;
+
+/// The share of one contribution.
+#[inline]
+pub fn share<M>(monomial: M, x: i128, y: i128, minus: bool) -> Share<M> {
+    let sum = x.checked_mul(y).unwrap_or(i128::MIN);
+    let sum = if minus { sum.checked_neg().unwrap_or(i128::MIN) } else { sum };
+    Share { monomial, sum, weight: sum.unsigned_abs() }
+}
+
+#[inline]
+fn joined<M>(x: Share<M>, y: Share<M>) -> Share<M> {
+    let weight = x.weight.saturating_add(y.weight);
+    if weight > i128::MAX as u128 {
+        return Share { monomial: x.monomial, sum: 0, weight: u128::MAX };
+    }
+    Share { monomial: x.monomial, sum: x.sum + y.sum, weight }
+}
+
+/// Two falling lists as one.
+fn merge<M: Monomial>(first: Vec<Share<M>>, second: Vec<Share<M>>) -> Vec<Share<M>> {
+    let mut shares = Vec::with_capacity(first.len() + second.len());
+    let mut first = first.into_iter();
+    let mut second = second.into_iter();
+    while let (Some(x), Some(y)) = (first.as_slice().first(), second.as_slice().first()) {
+        match x.monomial.order(&y.monomial) {
+            Ordering::Less => shares.extend(second.next()),
+            Ordering::Greater => shares.extend(first.next()),
+            Ordering::Equal => {
+                if let (Some(x), Some(y)) = (first.next(), second.next()) {
+                    shares.push(joined(x, y));
+                }
+            }
+        }
+    }
+    shares.extend(first);
+    shares.extend(second);
+    shares
+}
+
+/// The contributions to a product, by halves of the first factor.
+fn part<M: Monomial>(ts: &[Term<M>], us: &[Term<M>], minus: bool) -> Result<Vec<Share<M>>, Fault> {
+    match ts {
+        [] => Ok(Vec::new()),
+        [t] => {
+            let mut row = Vec::with_capacity(us.len());
+            for u in us {
+                let monomial = t.monomial.times(&u.monomial).ok_or(Fault)?;
+                row.push(share(monomial, t.coeff, u.coeff, minus));
+            }
+            Ok(row)
+        }
+        _ => {
+            let (front, back) = ts.split_at(ts.len() / 2);
+            Ok(merge(part(front, us, minus)?, part(back, us, minus)?))
+        }
+    }
+}
+
+fn squeeze<M>(shares: Vec<Share<M>>) -> Result<Vec<Term<M>>, Fault> {
+    let mut terms = Vec::with_capacity(shares.len());
+    for share in shares {
+        if share.weight > i128::MAX as u128 {
+            return Err(Fault);
+        }
+        if share.sum != 0 {
+            terms.push(Term { monomial: share.monomial, coeff: share.sum });
+        }
+    }
+    Ok(terms)
+}
+
+fn sorted<M: Monomial>(mut shares: Vec<Share<M>>) -> Vec<Share<M>> {
+    if shares.len() < 2 {
+        return shares;
+    }
+    let back = shares.split_off(shares.len() / 2);
+    merge(sorted(shares), sorted(back))
+}
+
+/// The polynomial that contributions in any order add up to.
+pub fn from_shares<M: Monomial>(shares: Vec<Share<M>>) -> Result<Vec<Term<M>>, Fault> {
+    squeeze(sorted(shares))
+}
+
+/// The combination `l*q - a*p`.
+pub fn combine<M: Monomial>(l: &[Term<M>], q: &[Term<M>], a: &[Term<M>], p: &[Term<M>]) -> Result<Vec<Term<M>>, Fault> {
+    squeeze(merge(part(l, q, false)?, part(a, p, true)?))
+}
+
+/// The product `l*q`.
+pub fn times<M: Monomial>(l: &[Term<M>], q: &[Term<M>]) -> Result<Vec<Term<M>>, Fault> {
+    squeeze(part(l, q, false)?)
+}
