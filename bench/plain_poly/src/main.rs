@@ -1,11 +1,12 @@
 //! The work of the crate `poly_bench` in plain Rust: the same polynomials, combinations and checksum, with early sums.
 //!
-//! The arguments are those of `poly_bench`: ROUNDS TERMS SHORT VARIABLES POWERS [product]. Monomials are packed in one word where there are at most
-//! eight variables, and lists of powers in the value else. A last word `listed` has lists in both cases.
+//! The arguments are those of `poly_bench`: ROUNDS TERMS SHORT VARIABLES POWERS [product]. A last word says how monomials
+//! are stored: `listed` (as without it), up to six powers in the value, which is the form of the crate `monomial`; `keyed`, up to eight powers of 32 bits
+//! in the value; `packed`, for at most eight variables, the exponents in one word.
 mod monomial;
 mod poly;
 
-use monomial::{Listed, Monomial, Packed, PACKED};
+use monomial::{Keyed, Listed, Monomial, Packed, PACKED};
 use poly::{combine, from_shares, share, times, Fault, Term};
 use std::process::ExitCode;
 
@@ -23,6 +24,13 @@ impl Numbers {
     }
 }
 
+/// How monomials are stored.
+enum Form {
+    Packed,
+    Keyed,
+    Listed,
+}
+
 struct Plan {
     rounds: u32,
     terms: u32,
@@ -30,7 +38,7 @@ struct Plan {
     variables: u32,
     powers: u32,
     product: bool,
-    listed: bool,
+    form: Form,
 }
 
 fn random_monomial<M: Monomial>(numbers: &mut Numbers, plan: &Plan) -> Result<M, Fault> {
@@ -81,10 +89,13 @@ fn run<M: Monomial>(plan: &Plan) -> Result<u64, Fault> {
 }
 
 fn plan(mut words: Vec<String>) -> Option<Plan> {
-    let listed = words.last().is_some_and(|word| word == "listed");
-    words.truncate(words.len() - usize::from(listed));
-    let product = words.last().is_some_and(|word| word == "product");
-    words.truncate(words.len() - usize::from(product));
+    let form = match words.last().map(String::as_str) {
+        Some("packed") => Form::Packed,
+        Some("keyed") => Form::Keyed,
+        _ => Form::Listed,
+    };
+    words.pop_if(|word| ["packed", "keyed", "listed"].contains(&word.as_str()));
+    let product = words.pop_if(|word| word == "product").is_some();
     let [rounds, terms, short, variables, powers] = words.as_slice() else {
         return None;
     };
@@ -95,18 +106,23 @@ fn plan(mut words: Vec<String>) -> Option<Plan> {
         variables: variables.parse().ok()?,
         powers: powers.parse().ok()?,
         product,
-        listed,
+        form,
     };
-    (plan.variables > 0).then_some(plan)
+    let few = plan.variables <= PACKED || !matches!(plan.form, Form::Packed);
+    (plan.variables > 0 && few).then_some(plan)
 }
 
 fn main() -> ExitCode {
     let Some(plan) = plan(std::env::args().skip(1).collect()) else {
-        eprintln!("plain_poly: wanted: ROUNDS TERMS SHORT VARIABLES POWERS [product] [listed], of which VARIABLES is at least 1");
+        eprintln!("plain_poly: wanted: ROUNDS TERMS SHORT VARIABLES POWERS [product] [packed | keyed | listed], of which VARIABLES is at least 1, and at most 8 where packed");
         return ExitCode::from(2);
     };
-    let packed = plan.variables <= PACKED && !plan.listed;
-    match if packed { run::<Packed>(&plan) } else { run::<Listed>(&plan) } {
+    let answer = match plan.form {
+        Form::Packed => run::<Packed>(&plan),
+        Form::Keyed => run::<Keyed>(&plan),
+        Form::Listed => run::<Listed>(&plan),
+    };
+    match answer {
         Ok(sum) => {
             println!("{sum}");
             ExitCode::SUCCESS

@@ -166,3 +166,125 @@ impl Monomial for Packed {
         }
     }
 }
+
+const KEYS: usize = 8;
+
+/// Powers from the greatest variable down. Up to eight powers of variables below 65,536 are kept as keys of sixteen bits of the variable and sixteen of
+/// the exponent, and zeros after them. Other monomials are kept in a list of their own, and then the keys are not used.
+pub struct Keyed {
+    keys: [u32; KEYS],
+    listed: Option<Box<[Power]>>,
+}
+
+impl Keyed {
+    fn list(&self) -> Vec<Power> {
+        let mut powers = Vec::with_capacity(2 * KEYS);
+        self.each_power(|power| powers.push(power));
+        powers
+    }
+
+    #[cold]
+    fn times_listed(&self, other: &Keyed) -> Option<Keyed> {
+        let (first, second) = (self.list(), other.list());
+        let (mut first, mut second) = (first.as_slice(), second.as_slice());
+        let mut product = Vec::with_capacity(first.len() + second.len());
+        while let ([x, xs @ ..], [y, ys @ ..]) = (first, second) {
+            match x.0.cmp(&y.0) {
+                Ordering::Less => {
+                    product.push(*y);
+                    second = ys;
+                }
+                Ordering::Greater => {
+                    product.push(*x);
+                    first = xs;
+                }
+                Ordering::Equal => {
+                    product.push((x.0, x.1.checked_add(y.1)?));
+                    first = xs;
+                    second = ys;
+                }
+            }
+        }
+        product.extend_from_slice(first);
+        product.extend_from_slice(second);
+        Some(Keyed { keys: [0; KEYS], listed: Some(product.into_boxed_slice()) })
+    }
+
+    #[cold]
+    fn order_listed(&self, other: &Keyed) -> Ordering {
+        self.list().cmp(&other.list())
+    }
+}
+
+impl Monomial for Keyed {
+    fn one() -> Keyed {
+        Keyed { keys: [0; KEYS], listed: None }
+    }
+
+    fn power((var, exp): Power) -> Keyed {
+        let mut keys = [0; KEYS];
+        if var > 65535 {
+            return Keyed { keys, listed: Some(Box::new([(var, exp)])) };
+        }
+        keys[0] = var << 16 | u32::from(exp);
+        Keyed { keys, listed: None }
+    }
+
+    #[inline]
+    fn times(&self, other: &Keyed) -> Option<Keyed> {
+        if self.listed.is_some() || other.listed.is_some() {
+            return self.times_listed(other);
+        }
+        let mut keys = [0; KEYS];
+        let (mut i, mut j, mut n) = (0, 0, 0);
+        loop {
+            let x = if i < KEYS { self.keys[i] } else { 0 };
+            let y = if j < KEYS { other.keys[j] } else { 0 };
+            if x | y == 0 {
+                return Some(Keyed { keys, listed: None });
+            }
+            if n == KEYS {
+                return self.times_listed(other);
+            }
+            if (x ^ y) >> 16 == 0 {
+                if (x & 0xffff) + (y & 0xffff) > 65535 {
+                    return None;
+                }
+                keys[n] = x + (y & 0xffff);
+                i += 1;
+                j += 1;
+            } else if x > y {
+                keys[n] = x;
+                i += 1;
+            } else {
+                keys[n] = y;
+                j += 1;
+            }
+            n += 1;
+        }
+    }
+
+    #[inline]
+    fn order(&self, other: &Keyed) -> Ordering {
+        if self.listed.is_some() || other.listed.is_some() {
+            return self.order_listed(other);
+        }
+        for (x, y) in self.keys.iter().zip(&other.keys) {
+            if x != y {
+                return x.cmp(y);
+            }
+        }
+        Ordering::Equal
+    }
+
+    fn each_power(&self, mut f: impl FnMut(Power)) {
+        if let Some(powers) = &self.listed {
+            for power in powers.iter() {
+                f(*power);
+            }
+        }
+        for key in self.keys.iter().take_while(|key| **key != 0) {
+            f((key >> 16, (key & 0xffff) as u16));
+        }
+    }
+}
