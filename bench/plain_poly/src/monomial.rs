@@ -177,42 +177,44 @@ pub struct Keyed {
 }
 
 impl Keyed {
-    fn list(&self) -> Vec<Power> {
-        let mut powers = Vec::with_capacity(2 * KEYS);
-        self.each_power(|power| powers.push(power));
-        powers
+    #[inline]
+    fn power_at(&self, i: usize) -> Option<Power> {
+        if let Some(powers) = &self.listed {
+            return powers.get(i).copied();
+        }
+        match self.keys.get(i) {
+            None | Some(0) => None,
+            Some(key) => Some((key >> 16, (key & 0xffff) as u16)),
+        }
     }
 
-    #[cold]
+    #[inline(never)]
     fn times_listed(&self, other: &Keyed) -> Option<Keyed> {
-        let (first, second) = (self.list(), other.list());
-        let (mut first, mut second) = (first.as_slice(), second.as_slice());
-        let mut product = Vec::with_capacity(first.len() + second.len());
-        while let ([x, xs @ ..], [y, ys @ ..]) = (first, second) {
-            match x.0.cmp(&y.0) {
-                Ordering::Less => {
-                    product.push(*y);
-                    second = ys;
-                }
-                Ordering::Greater => {
-                    product.push(*x);
-                    first = xs;
-                }
-                Ordering::Equal => {
-                    product.push((x.0, x.1.checked_add(y.1)?));
-                    first = xs;
-                    second = ys;
-                }
+        let mut product = Vec::with_capacity(2 * KEYS);
+        let (mut i, mut j) = (0, 0);
+        loop {
+            let (x, y) = (self.power_at(i), other.power_at(j));
+            match (x, y) {
+                (None, None) => break,
+                (Some(x), Some(y)) if x.0 == y.0 => product.push((x.0, x.1.checked_add(y.1)?)),
+                _ => product.extend(x.max(y)),
             }
+            let last = product.last().map(|power| power.0);
+            i += usize::from(x.map(|power| power.0) == last);
+            j += usize::from(y.map(|power| power.0) == last);
         }
-        product.extend_from_slice(first);
-        product.extend_from_slice(second);
         Some(Keyed { keys: [0; KEYS], listed: Some(product.into_boxed_slice()) })
     }
 
-    #[cold]
+    #[inline(never)]
     fn order_listed(&self, other: &Keyed) -> Ordering {
-        self.list().cmp(&other.list())
+        for i in 0.. {
+            let (x, y) = (self.power_at(i), other.power_at(i));
+            if x != y || x.is_none() {
+                return x.cmp(&y);
+            }
+        }
+        Ordering::Equal
     }
 }
 
