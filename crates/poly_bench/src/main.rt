@@ -5,8 +5,6 @@
 //! `l*q - a*p`, or the product `l*q` where a sixth word `product` is given.
 #![tactic(auto)]
 
-ghost use Rattle.std.specs.Prelude.{◌≤◌};
-
 mod making;
 
 use making::{Numbers, Shape, random_poly};
