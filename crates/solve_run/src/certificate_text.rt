@@ -24,7 +24,9 @@ pub fn open_leaf(alloc: Global, root: &Root) -> Result<Vec<u8>, AllocError>
 fn head(alloc: Global, unknowns: u32, equations: usize) -> Result<String, AllocError>
     ensures { IfOk result (λ s. string_bytes s ≡ head_text unknowns equations) }
 {
-    format!(in alloc; "braidcert 1\nunknowns {unknowns}\nequations {equations}\nbudget 0\nleaf 0 open budget\n")
+    format!(in alloc;
+        "braidcert 1\nunknowns {unknowns}\nequations {equations}\nbudget 0\nleaf 0 open budget\n"
+    )
 }
 
 fn push_equations(equations: &[Poly], into: &mut Vec<u8>) -> Result<(), AllocError>

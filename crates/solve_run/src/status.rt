@@ -88,10 +88,14 @@ fn ring_line(alloc: Global, fault: &RingFault) -> Result<String, AllocError>
     match fault {
         RingFault::LabelCount { labels } => format!(in alloc; "problem ring label count {labels}"),
         RingFault::LabelRange { index } => format!(in alloc; "problem ring label range {index}"),
-        RingFault::Multiplicity { a, b, c } => format!(in alloc; "problem ring multiplicity {a} {b} {c}"),
+        RingFault::Multiplicity { a, b, c } => format!(in alloc;
+            "problem ring multiplicity {a} {b} {c}"
+        ),
         RingFault::UnitFault { a, b, c } => format!(in alloc; "problem ring unit {a} {b} {c}"),
         RingFault::DualFault { a } => format!(in alloc; "problem ring dual {a}"),
-        RingFault::NotCommutative { a, b, c } => format!(in alloc; "problem ring not commutative {a} {b} {c}"),
+        RingFault::NotCommutative { a, b, c } => format!(in alloc;
+            "problem ring not commutative {a} {b} {c}"
+        ),
         RingFault::NotAssociative { a, b, c, d } => {
             format!(in alloc; "problem ring not associative {a} {b} {c} {d}")
         }
