@@ -3,3 +3,5 @@ pub mod Channels
 pub mod Duals
 pub mod Stated
 pub mod Rules
+pub mod Total
+pub mod Answered

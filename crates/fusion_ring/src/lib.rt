@@ -6,9 +6,11 @@ ghost use Rattle.fusion_ring.specs.Fusion.{channel};
 ghost use Rattle.fusion_ring.specs.Rings.{IsDual, IsSmallRing};
 ghost use Rattle.fusion_ring.specs.Faults.{IsRingOf, IsRingFault};
 
+mod laws;
 mod products;
 mod table;
 
+pub use laws::ring_answer_law;
 use products::{first_outside, least_repeat, least_unit_fault};
 use std::alloc::{AllocError, Global};
 use std::marker::Model;

@@ -135,5 +135,6 @@ fn calls(rt: HostRuntime) -> Result<(), Fail> {
         assert_eq!(rt; ring.dual(1), 2);
         assert_eq!(rt; ring.dual(2), 1);
     }
+    ring_answer_law();
     Ok(())
 }

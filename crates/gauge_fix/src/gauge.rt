@@ -13,7 +13,7 @@ use sparse_poly::{Poly, PolyFault, Term};
 use std::alloc::{AllocError, Global};
 use symbol_index::{GaugeEntry, Standing, Symbols};
 
-/// For each entry its symbol minus its value, in the order of the entries.
+/// For each entry its symbol minus its value, in no order that is promised.
 ///
 /// Each entry is to name an unknown of the ring, with a value of absolute value at most `2^127-1`.
 /// It fails only where no memory is left.
@@ -39,11 +39,7 @@ pub fn gauge_law<F: CharZeroField>()
 {}
 
 // The symbol of an entry minus its value.
-fn gauge_difference(
-    alloc: Global,
-    symbols: &Symbols,
-    entry: GaugeEntry,
-) -> Result<Poly, AllocError>
+fn gauge_difference(alloc: Global, symbols: &Symbols, entry: GaugeEntry) -> Result<Poly, AllocError>
     requires { IsFixable symbols.now entry }
     ensures { IfOk result (IsGaugeDifference symbols.now entry) }
 {

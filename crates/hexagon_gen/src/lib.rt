@@ -17,7 +17,8 @@ use std::alloc::{AllocError, Global};
 use symbol_equations::{Product, Sides, differences, fsym, summands, trees};
 use symbol_index::{Symbol, Symbols};
 
-/// The labels at which both hexagons stand.
+/// The labels at which both hexagons stand: a, b and c are fused to d. The channel e is one of a and c,
+/// and g one of c and b.
 #[derive(Clone, Copy)]
 pub struct HexagonLabels {
     pub a: u8,

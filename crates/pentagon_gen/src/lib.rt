@@ -17,7 +17,8 @@ use std::alloc::{AllocError, Global};
 use symbol_equations::{Product, Sides, differences, fsym, summands, trees};
 use symbol_index::Symbols;
 
-/// The labels at which a pentagon stands.
+/// The labels at which a pentagon stands: a, b, c and d are fused to e. The channel f is one of a and b,
+/// g one of f and c, l one of c and d, and k one of b and l.
 #[derive(Clone, Copy)]
 pub struct PentagonLabels {
     pub a: u8,

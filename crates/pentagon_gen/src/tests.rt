@@ -1,4 +1,5 @@
 use super::*;
+use field_laws::Rationals;
 use fusion_ring::Triple;
 use std::test::Fail;
 
@@ -83,4 +84,9 @@ fn of_fibonacci(rt: HostRuntime) -> Result<(), Fail> {
     let expected = joined(rt.alloc(), &FIBONACCI_LINES)?;
     assert_eq!(rt; lines.as_str(), expected.as_str());
     Ok(())
+}
+
+#[test]
+fn the_law_at_the_rationals() {
+    pentagon_law::<Rationals>();
 }

@@ -1,0 +1,3 @@
+pub mod Runs
+pub mod NumberRuns
+pub mod Orders

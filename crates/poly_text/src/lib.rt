@@ -7,8 +7,14 @@
 //! and where the exponent is 2 or more, `^` and the exponent. Numbers have no leading zeros.
 #![tactic(auto)]
 
+mod form;
+mod numbers;
+mod order;
+mod raw;
+mod reader;
 #[cfg(test)]
 mod tests;
 mod writer;
 
+pub use reader::{PolyTextFault, read_poly};
 pub use writer::write_poly;

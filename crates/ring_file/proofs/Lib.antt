@@ -4,3 +4,5 @@ pub mod Checks
 pub mod Numbers
 pub mod Firsts
 pub mod Faults
+pub mod Alone
+pub mod Answered

@@ -19,7 +19,7 @@ holds : {E : Type 0} (r : Result ℤ E) (P : Type 0) (v : ℤ) → OkIff r P v �
 holds (Ok x) P v h p = ap Ok h.1
 holds (Err e) P v h p = absurd (h p)
 
-first_digit : (ds : List ℕ) (c : ℕ) → IsNumeral 10 ds → (c < 48) → get_or ds 0 0 ≢ c
+pub first_digit : (ds : List ℕ) (c : ℕ) → IsNumeral 10 ds → (c < 48) → get_or ds 0 0 ≢ c
 first_digit ds c h k e = let r = digit_at ds 0 h.1 h.0 in absurd (omega arith)
 
 plain : {E : Type 0} (n : ℕ) (bs : List ℕ) (r : Result ℤ E) → n ≤ max_value → bs ≡ decimal n → ParsesSigned w128 10 bs r → r ≡ Ok (pos n)

@@ -7,11 +7,13 @@
 
 mod file;
 mod gauge;
+mod laws;
 mod problem;
 mod reader;
 mod symbols;
 #[cfg(test)]
 mod tests;
 
+pub use laws::problem_answer_law;
 pub use problem::{Place, Problem, ProblemFault};
 pub use reader::read_problem;

@@ -1,6 +1,6 @@
 //! A table of files, each with its answer.
 
-use crate::read_problem;
+use crate::{problem_answer_law, read_problem};
 use std::alloc::{AllocError, Global};
 use std::process::Abort;
 use std::test::Fail;
@@ -184,5 +184,6 @@ fn parts(rt: HostRuntime) -> Result<(), Fail> {
         value: -7,
     };
     assert_eq!(rt; problem.gauge(), [entry].as_slice());
+    problem_answer_law();
     Ok(())
 }

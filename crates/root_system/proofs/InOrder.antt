@@ -27,6 +27,6 @@ strictly_sorted sorted ps s e = rw e (IsStrictlySortedBy-dedup poly_cmp-IsTotalO
 
 pub same_members : (all sorted ps : List (List Term)) → IsPermutation all sorted → ps ≡ dedup same_poly sorted → (p : List Term) → Contains ps p ↔ Contains all p
 same_members all sorted ps m e p = (
-    λ h. Contains-permutation sorted all p (IsPermutation-sym all sorted m) (Contains-from_dedup same_poly sorted p (rw e at h)),
-    λ h. rw e (Contains-dedup same_poly-IsEquivalence (λ x y t. poly_cmp-IsAntisymmetric x y (tied (poly_cmp x y) t)) sorted p (Contains-permutation all sorted p m h)),
-  )
+  λ h. Contains-permutation sorted all p (IsPermutation-sym all sorted m) (Contains-from_dedup same_poly sorted p (rw e at h)),
+  λ h. rw e (Contains-dedup same_poly-IsEquivalence (λ x y t. poly_cmp-IsAntisymmetric x y (tied (poly_cmp x y) t)) sorted p (Contains-permutation all sorted p m h)),
+)

@@ -2,7 +2,12 @@
 #![tactic(auto)]
 
 mod ascending;
+mod laws;
 mod primitive;
 mod root;
 
+pub use laws::{one_root_law, root_answer_law};
 pub use root::{Root, RootFault, root_law};
+
+#[cfg(test)]
+mod tests;

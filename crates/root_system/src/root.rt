@@ -140,11 +140,7 @@ fn root_equations(
 }
 
 // The differences of both sides of all equations of a problem.
-fn differences(
-    alloc: Global,
-    problem: &Problem,
-    symbols: &Symbols,
-) -> Result<Vec<Poly>, AllocError>
+fn differences(alloc: Global, problem: &Problem, symbols: &Symbols) -> Result<Vec<Poly>, AllocError>
     requires { symbols.now ≡ problem.now.ring }
     ensures { IfOk result (λ v. AreDifferencesOf problem.now v.items) }
 {

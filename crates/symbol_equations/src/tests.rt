@@ -1,4 +1,5 @@
 use super::*;
+use field_laws::Rationals;
 use fusion_ring::Triple;
 use std::test::Fail;
 
@@ -114,4 +115,9 @@ fn sides(alloc: Global) -> Result<Sides, AllocError> {
     let mut right = Vec::new(alloc);
     right.push(Product::new(alloc, &[F])?)?;
     Ok(Sides::new(left, right))
+}
+
+#[test]
+fn the_law_at_the_rationals() {
+    difference_law::<Rationals>();
 }

@@ -16,11 +16,11 @@ returns g c r x ps elements are =
         braiding = all_vanish_at f l x elements r (IsInverseEquation r) ps are (λ t. IsTrue (is_channel r t)) braiding_side one_side (λ left right e. inr (inr e)) v;
       },
       λ h. (all_vanish f l x elements r (IsInverseEquation r) ps are).1
-      (λ left right q. elim q [
-        | inl e ↦ ap value e.2 ∙ h.rows e.0 e.1 ∙ ap value (sym e.3)
-        | inr o ↦ elim o [
-          | inl e ↦ ap value e.2 ∙ h.columns e.0 e.1 ∙ ap value (sym e.3)
-          | inr e ↦ ap value e.2 ∙ h.braiding e.0 e.1 ∙ ap value (sym e.3)
-        ]
-      ]),
+          (λ left right q. elim q [
+            | inl e ↦ ap value e.2 ∙ h.rows e.0 e.1 ∙ ap value (sym e.3)
+            | inr o ↦ elim o [
+              | inl e ↦ ap value e.2 ∙ h.columns e.0 e.1 ∙ ap value (sym e.3)
+              | inr e ↦ ap value e.2 ∙ h.braiding e.0 e.1 ∙ ap value (sym e.3)
+            ]
+          ]),
     )

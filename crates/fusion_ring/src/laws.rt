@@ -1,0 +1,14 @@
+//! What the contract of `Ring::new` says of its answers together.
+
+ghost use Rattle.std.specs.Prelude.{◌≡◌, ◌≢◌};
+ghost use Rattle.fusion_ring.specs.Faults.{IsRingOf, IsRingFault};
+
+use crate::RingFault;
+
+/// Apart from want of memory a list of triples has at most one answer, a ring or a fault. So where
+/// there is memory, `Ring::new` gives a fault exactly where the list has it.
+pub fn ring_answer_law()
+    ensures ok { (n products ring fault : _) → IsRingOf n products ring → IsRingFault n products fault → fault ≡ RingFault.OutOfMemory }
+    ensures one { (n products first second : _) → IsRingFault n products first → IsRingFault n products second → first ≢ RingFault.OutOfMemory → second ≢ RingFault.OutOfMemory → first ≡ second }
+    ensures ring { (n products first second : _) → IsRingOf n products first → IsRingOf n products second → first ≡ second }
+{}
