@@ -3,9 +3,15 @@
 ghost use Rattle.std.specs.Prelude.{◌<◌};
 
 use crate::{Status, UsageKind, exit_code, run, status_line};
-use braid_io::{MemSink, MemSource};
+use braid_io::{MemSink, MemSource, StdSink, StdSource};
 use field_laws::Rationals;
+use poly_text::{read_poly, write_poly};
+use ring_file::read_problem;
+use root_system::Root;
+use sparse_poly::Poly;
 use std::alloc::{AllocError, Global};
+use std::cmp::Ordering;
+use std::io::{self, Write};
 use std::process::Abort;
 use std::test::Fail;
 
@@ -184,11 +190,18 @@ fn faults(rt: HostRuntime) -> Result<(), Fail> {
         sink_of(alloc, 0, 1, &[])?,
         (Status::WriteFault, ""),
     )?;
-    // The empty input, and one byte too many.
+    // The empty input, bytes that are no UTF-8, the most bytes, and one more.
     let not_json = Status::Problem(ring_file::ProblemFault::NotJson);
     fault(
         &rt,
         source_of(alloc, b"", 8, &[])?,
+        sink_of(alloc, room, 8, &[])?,
+        (not_json, ""),
+    )?;
+    let no_text = b"{\"labels\":1,\"products\":[],\"name\":\"\xff\"}";
+    fault(
+        &rt,
+        source_of(alloc, no_text, 8, &[])?,
         sink_of(alloc, room, 8, &[])?,
         (not_json, ""),
     )?;
@@ -272,5 +285,67 @@ fn too_many_unknowns(rt: HostRuntime) -> Result<(), Fail> {
     let (line, written) = lines_of(rt.alloc(), problem.as_str())?;
     assert_eq!(rt; line.as_str(), "too many unknowns 5784");
     assert_eq!(rt; written.is_empty(), true);
+    Ok(())
+}
+
+/// A device that takes nothing of what it is handed.
+#[derive(Drop)]
+struct Silent;
+
+impl Write for Silent {
+    fn write(&mut self, _buf: &[u8]) -> io::Result<usize> {
+        Ok(0)
+    }
+
+    fn flush(&mut self) -> io::Result<()> {
+        Ok(())
+    }
+}
+
+#[test]
+fn silent_device(rt: HostRuntime) -> Result<(), Fail> {
+    let alloc = rt.alloc();
+    let words = two_words(alloc, "--budget", "0")?;
+    let mut source = source_of(alloc, Z2.as_bytes(), 8, &[])?;
+    let mut sink = StdSink::new(Silent);
+    let status = run::<Rationals, _, _>(alloc, &words, &mut source, &mut sink);
+    assert_eq!(rt; status, Status::WriteFault);
+    let mut unopened: StdSource<&[u8]> = StdSource::unopened();
+    let status = run::<Rationals, _, _>(alloc, &words, &mut unopened, &mut sink);
+    assert_eq!(rt; status, Status::ReadFault);
+    Ok(())
+}
+
+/// The problems of the folder rings, one a line.
+const RINGS: &str =
+    r#"{"labels":2,"products":[[1,1,0],[1,1,1]],"gauge":[{"symbol":["F",1,1,1,1,0,1],"value":"1"}]}
+{"labels":2,"products":[[1,1,0],[1,1,1]]}
+{"labels":3,"products":[[1,1,0],[1,2,2],[2,1,2],[2,2,0],[2,2,1]],"gauge":[{"symbol":["F",2,2,2,2,0,1],"value":"1"}]}
+{"labels":3,"products":[[1,1,0],[1,2,2],[2,1,2],[2,2,0],[2,2,1]]}
+{"labels":3,"products":[[1,1,0],[1,2,2],[2,1,2],[2,2,0],[2,2,1],[2,2,2]]}
+{"labels":2,"products":[[1,1,0]]}
+{"labels":4,"products":[[1,1,0],[1,2,3],[1,3,2],[2,1,3],[2,2,0],[2,3,1],[3,1,2],[3,2,1],[3,3,0]]}
+{"labels":3,"products":[[1,1,2],[1,2,0],[2,1,0],[2,2,1]]}
+{"labels":4,"products":[[1,1,2],[1,2,3],[1,3,0],[2,1,3],[2,2,0],[2,3,1],[3,1,0],[3,2,1],[3,3,2]]}"#;
+
+/// Whether a polynomial's text is read as the same polynomial.
+fn is_read_back(alloc: Global, unknowns: u32, equation: &Poly) -> Result<bool, Fail> {
+    let mut text = Vec::new(alloc);
+    write_poly(equation, &mut text)?;
+    let read = read_poly(alloc, &text, unknowns)?;
+    Ok(matches!(equation.order(&read), Ordering::Equal))
+}
+
+#[test]
+fn roots_are_read_back(rt: HostRuntime) -> Result<(), Fail> {
+    let alloc = rt.alloc();
+    for line in RINGS.lines() {
+        let problem = read_problem(alloc, line.as_bytes())?;
+        let root = Root::new(alloc, &problem)?;
+        for equation in root.equations() {
+            let same = is_read_back(alloc, root.unknowns(), equation)?;
+            assert!(rt; same, "{line}");
+        }
+    }
     Ok(())
 }
