@@ -1,3 +1,7 @@
 pub mod Runs
 pub mod NumberRuns
 pub mod Orders
+pub mod Digits
+pub mod Alone
+pub mod Fronts
+pub mod Answered

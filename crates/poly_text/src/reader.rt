@@ -9,7 +9,7 @@ ghost use Rattle.poly_text.specs.Reading.{uses_below, IsSpelling, IsTextFault};
 use crate::form::syntax_fault;
 use crate::numbers::number_fault;
 use crate::order::{first_disorder, place};
-use crate::raw::{RawTerm, have_text, raw_terms};
+use crate::raw::{RawTerm, raw_terms};
 use crate::writer::write_poly;
 use monomial::Monomial;
 use sparse_poly::{Poly, Term};
@@ -110,12 +110,7 @@ pub fn read_poly(alloc: Global, text: &[u8], unknowns: u32) -> Result<Poly, Poly
     if let Some(at) = number_fault(unknowns, text) {
         return Err(PolyTextFault::Number { at: at as u64 });
     }
-    // What was read is compared with the text, so that the proof rests on what is written. A text
-    // that has come so far is always that of its terms, and the polynomial of terms in order has it.
-    let terms = raw_terms(alloc, text)?;
-    if !have_text(alloc, &terms, text)? {
-        return Err(PolyTextFault::OutOfMemory);
-    }
+    let terms = raw_terms(alloc, unknowns, text)?;
     if let Some(disorder) = first_disorder(alloc, &terms)? {
         let at = place(alloc, &terms, disorder)?;
         return Err(PolyTextFault::Order { at: at as u64 });
