@@ -1,12 +1,12 @@
 -- A text has at most one answer.
-use Rattle.std.specs.Prelude.{◌≡◌, ◌≢◌, ℕ, ◌^◌, ◌<◌, ◌≤◌, ℤ, pos, List, [], ◌∷◌, unsigned_abs, nat_lt, true, ◌&&◌}
-use Rattle.std.proofs.Common.{sym, ◌∙◌, ap, arith}
+use Rattle.std.specs.Prelude.{◌≡◌, ◌≢◌, ℕ, ◌^◌, ◌<◌, ◌≤◌, pos, List, [], ◌∷◌, unsigned_abs}
+use Rattle.std.proofs.Common.{arith}
 use Rattle.std.specs.List.{AllByRecursion}
 use Rattle.monomial.specs.Monomials.{IsMonomial, IsPowers}
 use Rattle.sparse_poly.specs.declared.Term.{Term}
 use Rattle.sparse_poly.specs.Contributions.{IsPoly, max_coeff}
 use Rattle.poly_text.specs.Text.{poly_text}
-use Rattle.poly_text.specs.Numbers.{IsFactorInRange, IsTermInRange, AreInRange}
+use Rattle.poly_text.specs.Numbers.{IsFactorInRange, AreInRange}
 use Rattle.poly_text.proofs.Alone.{same_text, are_small}
 
 -- ---- a polynomial's numbers are in range

@@ -1,6 +1,6 @@
 //! The terms of a text, with terms and factors in any order.
 
-ghost use Rattle.std.specs.Prelude.{◌≡◌, [], ◌++◌, OnOk, IfOk, map};
+ghost use Rattle.std.specs.Prelude.{◌≡◌, ◌≤◌, [], ◌++◌, OnOk, IfOk, map, length, drop};
 ghost use Rattle.std.specs.List.{AllByRecursion};
 ghost use Rattle.poly_text.specs.Text.{term_text, more_terms, poly_text};
 ghost use Rattle.poly_text.specs.Raw.{raw};
@@ -28,6 +28,14 @@ fn begins_with(text: &[u8], byte: u8) -> bool
         [] => false,
         [first, ..] => *first == byte,
     }
+}
+
+/// The text without its first bytes.
+fn behind(text: &[u8], count: usize) -> &[u8]
+    requires { count ≤ length text.now }
+    ensures { result.now ≡ drop count text.now }
+{
+    &text[count..]
 }
 
 /// What follows the digits at the front of a text.
@@ -67,8 +75,9 @@ fn split_factor(unknowns: u32, text: &[u8]) -> ((u32, u16), &[u8])
     let variable = number(text) as u32;
     let rest = after_digits(text);
     if begins_with(rest, b'^') {
-        let exponent = number(&rest[1..]) as u16;
-        ((variable, exponent), after_digits(&rest[1..]))
+        let power = behind(rest, 1);
+        let exponent = number(power) as u16;
+        ((variable, exponent), after_digits(power))
     } else {
         ((variable, 1), rest)
     }
@@ -86,7 +95,7 @@ fn push_factors<'a>(
 {
     let mut rest = text;
     'factors: while begins_with(rest, b'*') {
-        let (power, further) = split_factor(unknowns, &rest[2..]);
+        let (power, further) = split_factor(unknowns, behind(rest, 2));
         powers.push(power)?;
         rest = further;
     }
@@ -105,9 +114,9 @@ fn split_body<'a>(
     ensures { IfOk result (λ r. IsBodyFront unknowns text.now r.0 powers.new.items r.1.now) }
 {
     if begins_with(text, b'x') {
-        let (power, behind) = split_factor(unknowns, &text[1..]);
+        let (power, further) = split_factor(unknowns, behind(text, 1));
         powers.push(power)?;
-        let rest = push_factors(unknowns, behind, powers)?;
+        let rest = push_factors(unknowns, further, powers)?;
         Ok((1, rest))
     } else {
         let size = number(text);
