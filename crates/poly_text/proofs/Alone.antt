@@ -265,7 +265,7 @@ same_text (t ∷ ts) (u ∷ us) s h e = same_first t u ts us t.coeff u.coeff ref
 
 -- ---- numbers in range
 
-some_abs : (z : ℤ) → z ≢ pos 0 → 0 < unsigned_abs z
+pub some_abs : (z : ℤ) → z ≢ pos 0 → 0 < unsigned_abs z
 some_abs (pos zero) h = absurd (h refl)
 some_abs (pos (suc n)) h = omega arith
 some_abs (negsuc n) h = omega arith

@@ -65,13 +65,13 @@ pub record Keeps (s : State) : Type 0 where
   pub next_digit : (c : ℕ) → is_digit c ≡ true → next s c ≡ s
   pub starts : starts_number s ≡ false
 
-keeps_coefficient : Keeps Coefficient
+pub keeps_coefficient : Keeps Coefficient
 keeps_coefficient = record { next_digit = λ c h. ap (λ b. if b then Coefficient else after_factor c) h; starts = refl }
 
-keeps_variable : Keeps Variable
+pub keeps_variable : Keeps Variable
 keeps_variable = record { next_digit = λ c h. ap (λ b. if b then Variable else after_variable c) h; starts = refl }
 
-keeps_exponent : Keeps Exponent
+pub keeps_exponent : Keeps Exponent
 keeps_exponent = record { next_digit = λ c h. ap (λ b. if b then Exponent else after_factor c) h; starts = refl }
 
 not_out : (u : ℕ) (s : State) (c : ℕ) (cs : List ℕ) → starts_number s ≡ false → is_out u s (c ∷ cs) ≡ false
@@ -430,7 +430,7 @@ no_star u [] h b = absurd (cc)
 no_star u (c ∷ cs) h b = let e : Wrong ≡ Signed = sym (ap after_term (is_equal c 42 b)) ∙ h.0 in absurd (cc)
 
 -- behind a term there may be no factor
-after_end : (u : ℕ) (rest : List ℕ) → IsAfterTerm u rest → IsLive u FactorEnd rest
+pub after_end : (u : ℕ) (rest : List ℕ) → IsAfterTerm u rest → IsLive u FactorEnd rest
 after_end u [] h = record { form = refl; numbers = refl }
 after_end u (c ∷ cs) h = by (c == 42) refl
   where

@@ -4,4 +4,5 @@ pub mod Orders
 pub mod Digits
 pub mod Alone
 pub mod Fronts
+pub mod Written
 pub mod Answered
