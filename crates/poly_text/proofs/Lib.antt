@@ -5,4 +5,6 @@ pub mod Digits
 pub mod Alone
 pub mod Fronts
 pub mod Written
+pub mod Ordered
+pub mod Read
 pub mod Answered

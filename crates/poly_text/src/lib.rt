@@ -17,6 +17,6 @@ mod reader;
 mod tests;
 mod writer;
 
-pub use laws::text_law;
+pub use laws::{answer_law, text_law};
 pub use reader::{PolyTextFault, read_poly};
 pub use writer::write_poly;
