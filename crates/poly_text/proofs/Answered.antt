@@ -1,16 +1,16 @@
 -- A text has at most one answer.
-use Rattle.std.specs.Prelude.{◌≡◌, ◌≢◌, ℕ, ◌+◌, ◌^◌, ◌<◌, ◌≤◌, Bool, true, false, ◌&&◌, nat_lt, Option, None, Some, ℤ, pos, unsigned_abs, List, [], ◌∷◌, ◌++◌, take, drop, refl}
+use Rattle.std.specs.Prelude.{◌≡◌, ◌≢◌, ℕ, ◌+◌, ◌^◌, ◌<◌, ◌≤◌, Bool, true, false, ◌&&◌, nat_lt, Option, None, Some, pos, unsigned_abs, List, [], ◌∷◌, ◌++◌, take, drop, refl}
 use Rattle.std.proofs.Common.{sym, ◌∙◌, ap, subst, arith, inl, inr, append_assoc}
 use Rattle.std.proofs.lemmas.Bool.{cases_order}
-use Rattle.std.proofs.lemmas.Bool.Decides.{nat_tests}
 use Rattle.std.proofs.lemmas.List.{take-append-drop, take-take}
 use Rattle.std.specs.List.{AllByRecursion, list_all}
 use Rattle.monomial.specs.Monomials.{IsMonomial, IsPowers}
 use Rattle.sparse_poly.specs.declared.Term.{Term}
 use Rattle.sparse_poly.specs.Contributions.{IsPoly, max_coeff}
+use Rattle.poly_text.proofs.Digits.{below_of}
 use Rattle.poly_text.specs.Text.{poly_text}
 use Rattle.poly_text.specs.Form.{IsForm, IsSyntaxFault}
-use Rattle.poly_text.specs.Numbers.{IsFactorInRange, IsTermInRange, AreInRange}
+use Rattle.poly_text.specs.Numbers.{IsFactorInRange, AreInRange}
 use Rattle.poly_text.specs.Order.{first_disorder, place, IsOrderFault}
 use Rattle.poly_text.specs.Reading.{uses_below, IsSpelling, IsTextFault}
 use Rattle.poly_text.specs.Fronts.{IsLive}
@@ -44,9 +44,6 @@ one_poly p q h k e = same_text p q (are_small (2 ^ 32) p (omega arith) (poly_in_
 both : (a b : Bool) → (a && b) ≡ true → (a ≡ true) × (b ≡ true)
 both true b h = (refl, h)
 both false b h = absurd (cc)
-
-below_of : (n u : ℕ) → nat_lt n u ≡ true → n < u
-below_of n u h = grind (arith, nat_tests)
 
 factors_below : (u : ℕ) (ps : List (ℕ × ℕ)) → AllByRecursion (IsFactorInRange (2 ^ 32)) ps → list_all (λ (p : ℕ × ℕ). nat_lt p.0 u) ps ≡ true → AllByRecursion (IsFactorInRange u) ps
 factors_below u [] h b = tt

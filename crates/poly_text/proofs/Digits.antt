@@ -1,5 +1,5 @@
 -- The digits of a number, and what follows them.
-use Rattle.std.specs.Prelude.{◌≡◌, ◌≢◌, ℕ, ◌+◌, ◌-◌, ◌*◌, ◌/◌, ◌%◌, ◌^◌, ◌<◌, ◌≤◌, Bool, true, false, if◌then◌else◌, List, [], ◌∷◌, ◌++◌, decimal, refl}
+use Rattle.std.specs.Prelude.{◌≡◌, ◌≢◌, ℕ, ◌+◌, ◌-◌, ◌*◌, ◌/◌, ◌%◌, ◌^◌, ◌<◌, ◌≤◌, Bool, true, false, nat_lt, if◌then◌else◌, List, [], ◌∷◌, ◌++◌, decimal, refl}
 use Rattle.std.proofs.Common.{sym, ◌∙◌, ap, arith, append_assoc}
 use Rattle.std.proofs.lemmas.Bool.Decides.{nat_tests}
 use Rattle.std.proofs.lemmas.Fmt.{decimal_by_steps_wide}
@@ -14,6 +14,12 @@ Lacks f (c ∷ cs) = f c ≡ false
 -- a number whose digits are all written
 abbrev pub Small : ℕ → Type 0
 Small n = n < 10 ^ 64
+
+pub below_test : (n u : ℕ) → n < u → nat_lt n u ≡ true
+below_test n u h = grind (arith, nat_tests)
+
+pub below_of : (n u : ℕ) → nat_lt n u ≡ true → n < u
+below_of n u h = grind (arith, nat_tests)
 
 pub is_digit-of : (d : ℕ) → d < 10 → is_digit (48 + d) ≡ true
 is_digit-of d h = grind (arith, nat_tests)

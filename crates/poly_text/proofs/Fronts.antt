@@ -1,5 +1,5 @@
 -- What stands at the front of a text whose form and numbers are right.
-use Rattle.std.specs.Prelude.{◌≡◌, ◌≢◌, ℕ, suc, ◌+◌, ◌-◌, ◌*◌, ◌/◌, ◌%◌, ◌^◌, ◌<◌, ◌≤◌, Bool, true, false, ◌&&◌, ◌||◌, not, ◌==◌, nat_le, nat_lt, if◌then◌else◌, Option, None, Some, option_map, List, [], ◌∷◌, ◌++◌, length, drop, decimal, codes, refl}
+use Rattle.std.specs.Prelude.{◌≡◌, ◌≢◌, ℕ, suc, ◌+◌, ◌-◌, ◌*◌, ◌/◌, ◌%◌, ◌^◌, ◌<◌, ◌≤◌, Bool, true, false, ◌&&◌, ◌||◌, not, ◌==◌, nat_le, if◌then◌else◌, Option, None, Some, option_map, List, [], ◌∷◌, ◌++◌, length, drop, decimal, codes, refl}
 use Rattle.std.proofs.Common.{sym, ◌∙◌, ap, subst, arith, append_assoc, append-nil}
 use Rattle.std.proofs.lemmas.Bool.Decides.{nat_tests}
 use Rattle.std.proofs.lemmas.Fmt.{decimal_digit, decimal_step_wide}
@@ -15,7 +15,7 @@ use Rattle.poly_text.specs.declared.form.State.{State}
 use Rattle.poly_text.specs.declared.form.State.TheVariants.{Start, Signed, Zero, One, Coefficient, Times, Letter, VariableZero, Variable, Caret, FactorEnd, Exponent, Wrong}
 use Rattle.poly_text.proofs.Runs.{run-wrong}
 use Rattle.poly_text.proofs.NumberRuns.{number_from-le}
-use Rattle.poly_text.proofs.Digits.{Small, Lacks}
+use Rattle.poly_text.proofs.Digits.{below_of, Small, Lacks}
 use Rattle.poly_text.proofs.Alone.{is_equal, body_written, same_tail}
 
 -- what may stand behind some terms: at the start the first term, but not the text `0`, and else nothing or a further term
@@ -230,9 +230,6 @@ digit_rest c cs d = ap (λ b. if b then after_digits cs else c ∷ cs) (sym d)
 
 apart_of : (c k : ℕ) → (c == k) ≡ false → c ≢ k
 apart_of c k h = grind (arith, nat_tests)
-
-below_of : (n u : ℕ) → nat_lt n u ≡ true → n < u
-below_of n u h = grind (arith, nat_tests)
 
 pub record VariableRead (u : ℕ) (text : List ℕ) : Type 0 where
   pub small : number_from 0 text < u

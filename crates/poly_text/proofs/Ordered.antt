@@ -1,7 +1,6 @@
 -- Terms in order are a polynomial, and the other way round.
-use Rattle.std.specs.Prelude.{◌≡◌, ◌≢◌, ℕ, ◌+◌, ◌^◌, ◌<◌, ◌≤◌, Bool, true, false, nat_lt, if◌then◌else◌, Option, None, Some, option_map, ℤ, pos, unsigned_abs, List, [], ◌∷◌, refl}
-use Rattle.std.proofs.Common.{sym, ◌∙◌, ap, subst, arith}
-use Rattle.std.proofs.lemmas.Bool.Decides.{nat_tests}
+use Rattle.std.specs.Prelude.{◌≡◌, ◌≢◌, ℕ, ◌+◌, ◌^◌, ◌<◌, ◌≤◌, Bool, true, false, nat_lt, if◌then◌else◌, Option, None, Some, option_map, pos, unsigned_abs, List, [], ◌∷◌, refl}
+use Rattle.std.proofs.Common.{sym, ◌∙◌, ap, arith}
 use Rattle.std.specs.List.{AllByRecursion}
 use Rattle.std.specs.Ordering.{is_lt}
 use Rattle.std.specs.declared.cmp.Ordering.{Ordering}
@@ -10,17 +9,12 @@ use Rattle.monomial.specs.Monomials.{monomial_cmp, IsMonomial, IsPowers, IsBelow
 use Rattle.sparse_poly.specs.declared.Term.{Term}
 use Rattle.sparse_poly.specs.Contributions.{IsPoly, IsFalling, max_coeff}
 use Rattle.sparse_poly.proofs.Same.{all_through}
-use Rattle.poly_text.specs.Numbers.{IsFactorInRange, IsTermInRange, AreInRange}
+use Rattle.poly_text.proofs.Digits.{below_test, below_of}
+use Rattle.poly_text.specs.Numbers.{IsFactorInRange, AreInRange}
 use Rattle.poly_text.specs.Order.{product, is_below, first_factor, disorder, or_next, first_disorder}
 use Rattle.poly_text.specs.declared.order.Disorder.{Disorder}
 use Rattle.poly_text.specs.declared.order.Disorder.TheVariants.{TermAt, FactorAt}
 use Rattle.poly_text.proofs.Orders.{product_ordered}
-
-below_test : (n u : ℕ) → n < u → nat_lt n u ≡ true
-below_test n u h = grind (arith, nat_tests)
-
-below_of : (n u : ℕ) → nat_lt n u ≡ true → n < u
-below_of n u h = grind (arith, nat_tests)
 
 -- ---- a polynomial is in order
 

@@ -1,8 +1,7 @@
 -- Terms that are a polynomial add up to it.
-use Rattle.std.specs.Prelude.{◌≡◌, ℕ, zero, suc, ◌+◌, ◌<◌, ◌≤◌, Bool, true, false, ◌&&◌, nat_lt, if◌then◌else◌, unsigned_abs, List, [], ◌∷◌, ◌++◌, map, length, drop, refl, get_or}
+use Rattle.std.specs.Prelude.{◌≡◌, ℕ, zero, suc, ◌+◌, ◌<◌, ◌≤◌, true, ◌&&◌, nat_lt, if◌then◌else◌, unsigned_abs, List, [], ◌∷◌, ◌++◌, map, length, drop, refl, get_or}
 use Rattle.std.proofs.Common.{sym, ◌∙◌, ap, subst, arith, append-nil}
 use Rattle.std.proofs.lemmas.List.{drop_all}
-use Rattle.std.proofs.lemmas.Bool.Decides.{nat_tests}
 use Rattle.std.specs.List.{AllByRecursion, list_all}
 use Rattle.std.specs.Ordering.{is_eq, ordering_reverse}
 use Rattle.std.specs.declared.cmp.Ordering.{Ordering}
@@ -10,11 +9,12 @@ use Rattle.std.specs.declared.cmp.Ordering.TheVariants.{Less, Equal, Greater}
 use Rattle.monomial.specs.Monomials.{monomial_cmp, IsMonomial}
 use Rattle.monomial.proofs.Total.{monomial_cmp-IsTotalOrder, monomial_cmp-IsAntisymmetric}
 use Rattle.sparse_poly.specs.declared.Term.{Term}
-use Rattle.sparse_poly.specs.Polynomials.{is_of, weight}
+use Rattle.sparse_poly.specs.Polynomials.{weight}
 use Rattle.sparse_poly.specs.Contributions.{IsPoly, IsFalling, IsResult, IsFault, IsNoDegree, IsHeaviest, max_coeff}
 use Rattle.sparse_poly.specs.declared.PolyFault.{PolyFault}
 use Rattle.sparse_poly.specs.declared.PolyFault.TheVariants.{Degree, Heavy, OutOfMemory}
 use Rattle.sparse_poly.proofs.Same.{same_polynomial}
+use Rattle.poly_text.proofs.Digits.{below_test}
 use Rattle.poly_text.specs.Numbers.{IsFactorInRange, AreInRange}
 use Rattle.poly_text.specs.Raw.{raw}
 use Rattle.poly_text.specs.Reading.{uses_below}
@@ -52,9 +52,6 @@ monomial_in (s ∷ ss) (suc i) t h l e = monomial_in ss i t h.1 (omega arith) e
 
 pub monomial_at : (ts : List RawTerm) (i : ℕ) (t : RawTerm) → IsPoly (map raw ts) → i < length ts → t ≡ get_or ts i t → IsMonomial t.powers.items
 monomial_at ts i t h l e = monomial_in ts i t h.monomials l e
-
-below_test : (n u : ℕ) → n < u → nat_lt n u ≡ true
-below_test n u h = grind (arith, nat_tests)
 
 factors_below : (u : ℕ) (ps : List (ℕ × ℕ)) → AllByRecursion (IsFactorInRange u) ps → list_all (λ (p : ℕ × ℕ). nat_lt p.0 u) ps ≡ true
 factors_below u [] h = refl

@@ -1,20 +1,20 @@
 -- The text of terms has the form, and its numbers are in range where those of the terms are.
-use Rattle.std.specs.Prelude.{◌≡◌, ◌≢◌, ℕ, zero, suc, ◌+◌, ◌-◌, ◌*◌, ◌^◌, ◌<◌, ◌≤◌, Bool, true, false, ◌&&◌, ◌||◌, not, ◌==◌, nat_le, nat_lt, if◌then◌else◌, ℤ, pos, negsuc, unsigned_abs, List, [], ◌∷◌, ◌++◌, decimal, codes, refl}
+use Rattle.std.specs.Prelude.{◌≡◌, ◌≢◌, ℕ, zero, suc, ◌+◌, ◌-◌, ◌*◌, ◌^◌, ◌<◌, ◌≤◌, Bool, true, false, ◌&&◌, ◌||◌, not, ◌==◌, nat_le, if◌then◌else◌, ℤ, pos, negsuc, unsigned_abs, List, [], ◌∷◌, ◌++◌, decimal, codes, refl}
 use Rattle.std.proofs.Common.{sym, ◌∙◌, ap, subst, arith}
 use Rattle.std.proofs.lemmas.Bool.Decides.{nat_tests}
 use Rattle.std.proofs.lemmas.Fmt.{decimal_digit}
 use Rattle.std.specs.List.{AllByRecursion}
 use Rattle.sparse_poly.specs.declared.Term.{Term}
 use Rattle.sparse_poly.specs.Contributions.{max_coeff}
-use Rattle.poly_text.specs.Text.{factor_text, more_factors, body_text, sign_text, term_text, more_terms, poly_text}
+use Rattle.poly_text.specs.Text.{more_factors, body_text, sign_text, more_terms, poly_text}
 use Rattle.poly_text.specs.Form.{is_digit, begin_term, after_term, after_factor, after_variable, next}
 use Rattle.poly_text.specs.Numbers.{number_from, after_digits, starts_number, in_range, is_out, IsFactorInRange, IsTermInRange, AreInRange}
 use Rattle.poly_text.specs.Fronts.{IsLive, IsAfterTerm}
 use Rattle.poly_text.specs.declared.form.State.{State}
 use Rattle.poly_text.specs.declared.form.State.TheVariants.{Start, Signed, Zero, One, Coefficient, Times, Letter, VariableZero, Variable, Caret, FactorEnd, Exponent, Wrong}
-use Rattle.poly_text.proofs.Digits.{Small, Lacks, Begins, begins, read_number, read_rest}
+use Rattle.poly_text.proofs.Digits.{below_test, Small, Lacks, begins, read_number, read_rest}
 use Rattle.poly_text.proofs.Alone.{goes_on, continues, no_digit, is_equal, power_text, factor_shown, more_shown, factors_lack, is_written, body_written, body_bare, same_tail, some_abs}
-use Rattle.poly_text.proofs.Fronts.{Step, step, step_back, not_wrong, Keeps, keeps_coefficient, keeps_variable, keeps_exponent, before_digits, Alike, alike, after_end}
+use Rattle.poly_text.proofs.Fronts.{step, step_back, not_wrong, Keeps, keeps_coefficient, keeps_variable, keeps_exponent, before_digits, Alike, alike, after_end}
 
 -- ---- numbers
 
@@ -39,9 +39,6 @@ positive_live u n s k zs small some keeps leads r lacks l =
 
 other_byte : (c k : ℕ) → c ≢ k → (c == k) ≡ false
 other_byte c k h = grind (arith, nat_tests)
-
-below_test : (n u : ℕ) → n < u → nat_lt n u ≡ true
-below_test n u h = grind (arith, nat_tests)
 
 zero_variable : Alike is_digit VariableZero Variable
 zero_variable = record { same_next = λ c e. sym (ap (λ b. if b then Variable else after_variable c) e); same_end = refl; starts = refl }

@@ -1,5 +1,5 @@
-use Rattle.std.proofs.Common.{rules, ◌≡◌, sym, ◌∙◌, subst, map}
-use Rattle.sparse_poly.specs.Contributions.{IsPoly, IsResult, IsFault}
+use Rattle.std.proofs.Common.{◌≡◌, subst, map}
+use Rattle.sparse_poly.specs.Contributions.{IsResult, IsFault}
 use Rattle.poly_text.specs.Raw.{raw}
 use Rattle.poly_text.proofs.Read.{all_taken, one_result, monomial_at, no_fault}
 use Rattle.poly_text.proofs.reader.poly_of.Goals as goal

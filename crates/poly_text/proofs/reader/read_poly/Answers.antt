@@ -1,6 +1,4 @@
-use Rattle.std.proofs.Common.{rules, ◌≡◌, ◌≤◌, ◌^◌, sym, ◌∙◌, ap, arith, map, None}
-use Rattle.sparse_poly.specs.Contributions.{IsPoly}
-use Rattle.poly_text.specs.Text.{poly_text}
+use Rattle.std.proofs.Common.{◌≡◌, ◌≤◌, ◌^◌, sym, ◌∙◌, ap, arith, map, None}
 use Rattle.poly_text.specs.Order.{first_disorder}
 use Rattle.poly_text.specs.Raw.{raw}
 use Rattle.poly_text.proofs.Ordered.{ordered_poly}
