@@ -4,6 +4,7 @@ use Rattle.std.specs.Ordering.{is_lt}
 use Rattle.monomial.specs.Monomials.{monomial_times, monomial_cmp}
 use Rattle.sparse_poly.specs.declared.Term.{Term}
 use Rattle.poly_text.specs.Text.{term_text, poly_text}
+use Rattle.poly_text.specs.Numbers.{AreInRange}
 use Rattle.poly_text.specs.declared.order.Disorder.{Disorder}
 use Rattle.poly_text.specs.declared.order.Disorder.TheVariants.{TermAt, FactorAt}
 
@@ -55,10 +56,11 @@ abbrev pub place : List Term → Disorder → ℕ
 place ts (TermAt i) = length (front (take i ts))
 place ts (FactorAt i j) = length (front (take i ts) ++ part_text i j (drop i ts)) + 1
 
--- the text is that of some terms, of which the first that is out of order, or the first factor that is, stands at this place
-pub record IsOrderFault (text : List ℕ) (at : ℕ) : Type 0 where
+-- the text is that of some terms whose numbers are in range, of which the first that is out of order, or the first factor that is, stands at this place
+pub record IsOrderFault (unknowns : ℕ) (text : List ℕ) (at : ℕ) : Type 0 where
   pub terms : List Term
   pub spelled : text ≡ poly_text terms
+  pub in_range : AreInRange unknowns terms
   pub first : Disorder
   pub is_first : first_disorder 0 None terms ≡ Some first
   pub at_place : at ≡ place terms first

@@ -30,7 +30,7 @@ pub record IsNumberFault (unknowns : ℕ) (text : List ℕ) (at : ℕ) : Type 0 
 pub record IsPlaceFault (unknowns : ℕ) (text : List ℕ) (at : ℕ) : Type 0 where
   pub form : IsForm text
   pub numbers : first_out unknowns Start text ≡ None
-  pub order : IsOrderFault text at
+  pub order : IsOrderFault unknowns text at
 
 abbrev pub IsTextFault : ℕ → List ℕ → PolyTextFault → Type 0
 IsTextFault unknowns text (Syntax at) = IsSyntaxFault text at

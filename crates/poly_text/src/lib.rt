@@ -8,6 +8,7 @@
 #![tactic(auto)]
 
 mod form;
+mod laws;
 mod numbers;
 mod order;
 mod raw;
@@ -16,5 +17,6 @@ mod reader;
 mod tests;
 mod writer;
 
+pub use laws::{answer_law, text_law};
 pub use reader::{PolyTextFault, read_poly};
 pub use writer::write_poly;

@@ -11,7 +11,7 @@ use crate::form::{State, is_digit, next};
 const MAX_COEFF: u128 = i128::MAX as u128;
 
 /// The number at the front of a text, or a greater one than any in range where that is out of range.
-fn number(text: &[u8]) -> u128
+pub(crate) fn number(text: &[u8]) -> u128
     ensures exact { result ≤ max_coeff → number_from 0 text.now ≡ result }
     ensures great { max_coeff < result → max_coeff < number_from 0 text.now }
 {

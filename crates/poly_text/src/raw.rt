@@ -1,13 +1,17 @@
 //! The terms of a text, with terms and factors in any order.
 
-ghost use Rattle.std.specs.Prelude.{◌≡◌, ◌++◌, OnOk, IfOk, IsTrue, map};
+ghost use Rattle.std.specs.Prelude.{◌≡◌, ◌≤◌, [], ◌++◌, OnOk, IfOk, map, length, drop};
+ghost use Rattle.std.specs.List.{AllByRecursion};
 ghost use Rattle.poly_text.specs.Text.{term_text, more_terms, poly_text};
 ghost use Rattle.poly_text.specs.Raw.{raw};
+ghost use Rattle.poly_text.specs.Numbers.{after_digits, IsFactorInRange, AreInRange};
+ghost use Rattle.poly_text.specs.Fronts.{begins_with, after_sign, IsLive, IsFactorFront, IsFactorsFront, IsBodyFront, IsTermFront};
+ghost use Rattle.poly_text.specs.declared.form.State.{State};
 
-use crate::form::{State, next};
+use crate::form::is_digit;
+use crate::numbers::number;
 use crate::writer::{push_body, push_sign, push_text};
 use std::alloc::{AllocError, Global};
-use std::mem;
 
 /// A term as it stands in a text, with its factors in their order there.
 #[derive(Drop)]
@@ -16,97 +20,150 @@ pub(crate) struct RawTerm {
     pub(crate) powers: Vec<(u32, u16)>,
 }
 
-/// The terms read so far, and the parts of the one that is being read.
-#[derive(Drop)]
-struct Builder {
-    alloc: Global,
-    terms: Vec<RawTerm>,
-    powers: Vec<(u32, u16)>,
-    negative: bool,
-    coeff: Option<u128>,
-    variable: u128,
-    exponent: u128,
+/// Whether the text begins with this byte.
+fn begins_with(text: &[u8], byte: u8) -> bool
+    ensures { result ≡ begins_with text.now byte }
+{
+    match text {
+        [] => false,
+        [first, ..] => *first == byte,
+    }
 }
 
-impl Builder {
-    fn new(alloc: Global) -> Builder {
-        Builder {
-            alloc,
-            terms: Vec::new(alloc),
-            powers: Vec::new(alloc),
-            negative: false,
-            coeff: None,
-            variable: 0,
-            exponent: 0,
-        }
-    }
+/// The text without its first bytes.
+fn behind(text: &[u8], count: usize) -> &[u8]
+    requires { count ≤ length text.now }
+    ensures { result.now ≡ drop count text.now }
+{
+    &text[count..]
+}
 
-    /// Takes the next byte, before which the text is in this state.
-    fn take(&mut self, state: State, byte: u8) -> Result<(), AllocError> {
-        match byte {
-            b'0'..=b'9' => self.take_digit(state, byte - b'0'),
-            b'*' => self.end_factor(state)?,
-            b'+' | b'-' => {
-                if state != State::Start {
-                    self.end_term(state)?;
-                }
-                self.negative = byte == b'-';
+/// What follows the digits at the front of a text.
+fn after_digits(text: &[u8]) -> &[u8]
+    ensures { result.now ≡ after_digits text.now }
+{
+    let mut rest = text;
+    'digits: while let [digit, others @ ..] = rest
+        && is_digit(*digit)
+    {
+        rest = others;
+    }
+    rest
+}
+
+/// What follows the sign at the front of a text, if there is one.
+fn after_sign(text: &[u8]) -> &[u8]
+    ensures { result.now ≡ after_sign text.now }
+{
+    match text {
+        [] => text,
+        [first, rest @ ..] => {
+            if *first == b'+' || *first == b'-' {
+                rest
+            } else {
+                text
             }
-            _ => {}
         }
-        Ok(())
-    }
-
-    fn take_digit(&mut self, state: State, digit: u8) {
-        match state {
-            State::Letter | State::Variable => self.variable = with_digit(self.variable, digit),
-            State::Caret | State::Exponent => self.exponent = with_digit(self.exponent, digit),
-            _ => self.coeff = Some(with_digit(self.coeff.unwrap_or(0), digit)),
-        }
-    }
-
-    fn end_factor(&mut self, state: State) -> Result<(), AllocError> {
-        let exponent = match state {
-            State::VariableZero | State::Variable => 1,
-            State::FactorEnd | State::Exponent => self.exponent.min(65535) as u16,
-            _ => return Ok(()),
-        };
-        let variable = self.variable.min(4294967295) as u32;
-        self.powers.push((variable, exponent))?;
-        self.variable = 0;
-        self.exponent = 0;
-        Ok(())
-    }
-
-    fn end_term(&mut self, state: State) -> Result<(), AllocError> {
-        self.end_factor(state)?;
-        let size = self.coeff.unwrap_or(1).min(i128::MAX as u128) as i128;
-        let powers = mem::replace(&mut self.powers, Vec::new(self.alloc));
-        self.terms.push(RawTerm {
-            coeff: if self.negative { -size } else { size },
-            powers,
-        })?;
-        self.coeff = None;
-        Ok(())
     }
 }
 
-fn with_digit(number: u128, digit: u8) -> u128 {
-    number.saturating_mul(10).saturating_add(digit as u128)
+/// The factor behind an `x`, and what follows it.
+fn split_factor(unknowns: u32, text: &[u8]) -> ((u32, u16), &[u8])
+    requires { IsLive unknowns State.Letter text.now }
+    ensures { IsFactorFront unknowns text.now result.0 result.1.now }
+{
+    let variable = number(text) as u32;
+    let rest = after_digits(text);
+    if begins_with(rest, b'^') {
+        let power = behind(rest, 1);
+        let exponent = number(power) as u16;
+        ((variable, exponent), after_digits(power))
+    } else {
+        ((variable, 1), rest)
+    }
+}
+
+/// Appends the factors at the front of a text, each behind a `*`, and gives what follows them.
+fn push_factors<'a>(
+    unknowns: u32,
+    text: &'a [u8],
+    powers: &mut Vec<(u32, u16)>,
+) -> Result<&'a [u8], AllocError>
+    requires live { IsLive unknowns State.FactorEnd text.now }
+    requires in_range { AllByRecursion (IsFactorInRange unknowns) powers.old.items }
+    ensures { IfOk result (λ rest. IsFactorsFront unknowns text.now powers.old.items powers.new.items rest.now) }
+{
+    let mut rest = text;
+    'factors: while begins_with(rest, b'*') {
+        let (power, further) = split_factor(unknowns, behind(rest, 2));
+        powers.push(power)?;
+        rest = further;
+    }
+    Ok(rest)
+}
+
+/// Puts the factors of the term behind a sign in `powers`, and gives its coefficient's absolute value and
+/// what follows the term.
+fn split_body<'a>(
+    unknowns: u32,
+    text: &'a [u8],
+    powers: &mut Vec<(u32, u16)>,
+) -> Result<(u128, &'a [u8]), AllocError>
+    requires live { IsLive unknowns State.Signed text.now }
+    requires empty { powers.old.items ≡ [] }
+    ensures { IfOk result (λ r. IsBodyFront unknowns text.now r.0 powers.new.items r.1.now) }
+{
+    if begins_with(text, b'x') {
+        let (power, further) = split_factor(unknowns, behind(text, 1));
+        powers.push(power)?;
+        let rest = push_factors(unknowns, further, powers)?;
+        Ok((1, rest))
+    } else {
+        let size = number(text);
+        let rest = push_factors(unknowns, after_digits(text), powers)?;
+        Ok((size, rest))
+    }
+}
+
+/// Appends the term behind a sign, and gives what follows it.
+fn push_term<'a>(
+    alloc: Global,
+    unknowns: u32,
+    negative: bool,
+    text: &'a [u8],
+    terms: &mut Vec<RawTerm>,
+) -> Result<&'a [u8], AllocError>
+    requires { IsLive unknowns State.Signed text.now }
+    ensures { IfOk result (λ rest. IsTermFront unknowns negative text.now (map raw terms.old.items) (map raw terms.new.items) rest.now) }
+{
+    let mut powers = Vec::new(alloc);
+    let (size, rest) = split_body(unknowns, text, &mut powers)?;
+    let size = size as i128;
+    let coeff = if negative { -size } else { size };
+    terms.push(RawTerm { coeff, powers })?;
+    Ok(rest)
 }
 
 /// The terms of a text of the form whose numbers are in range.
-pub(crate) fn raw_terms(alloc: Global, text: &[u8]) -> Result<Vec<RawTerm>, AllocError> {
-    let mut builder = Builder::new(alloc);
-    let mut state = State::Start;
-    for byte in text {
-        builder.take(state, *byte)?;
-        state = next(state, *byte);
+pub(crate) fn raw_terms(
+    alloc: Global,
+    unknowns: u32,
+    text: &[u8],
+) -> Result<Vec<RawTerm>, AllocError>
+    requires { IsLive unknowns State.Start text.now }
+    ensures spelled { IfOk result (λ v. text.now ≡ poly_text (map raw v.items)) }
+    ensures in_range { IfOk result (λ v. AreInRange unknowns (map raw v.items)) }
+{
+    let mut terms = Vec::new(alloc);
+    if begins_with(text, b'0') {
+        return Ok(terms);
     }
-    if state != State::Zero {
-        builder.end_term(state)?;
+    let mut rest = text;
+    'terms: while !rest.is_empty() {
+        let negative = begins_with(rest, b'-');
+        rest = push_term(alloc, unknowns, negative, after_sign(rest), &mut terms)?;
     }
-    Ok(builder.terms)
+    Ok(terms)
 }
 
 fn push_raw_term(plus: &[u8], term: &RawTerm, into: &mut Vec<u8>) -> Result<(), AllocError>
@@ -136,13 +193,4 @@ pub(crate) fn push_raw_terms(terms: &[RawTerm], into: &mut Vec<u8>) -> Result<()
             push_more_raw_terms(rest, into)
         }
     }
-}
-
-/// Whether the terms have this text.
-pub(crate) fn have_text(alloc: Global, terms: &[RawTerm], text: &[u8]) -> Result<bool, AllocError>
-    ensures { IfOk result (λ b. IsTrue b → text.now ≡ poly_text (map raw terms.now)) }
-{
-    let mut written = Vec::new(alloc);
-    push_raw_terms(terms, &mut written)?;
-    Ok(written.as_slice() == text)
 }

@@ -1,18 +1,16 @@
 //! The reader.
 
-ghost use Rattle.std.specs.Prelude.{◌≡◌, ◌≤◌, nat_lt, IfOk, IsTrue, MatchResult, unsigned_abs};
-ghost use Rattle.std.specs.List.{list_all};
-ghost use Rattle.sparse_poly.specs.Contributions.{max_coeff};
-ghost use Rattle.poly_text.specs.Text.{poly_text};
-ghost use Rattle.poly_text.specs.Reading.{uses_below, IsSpelling, IsTextFault};
+ghost use Rattle.std.specs.Prelude.{◌≡◌, IfOk, MatchResult, map};
+ghost use Rattle.sparse_poly.specs.Contributions.{IsPoly};
+ghost use Rattle.poly_text.specs.Raw.{raw};
+ghost use Rattle.poly_text.specs.Reading.{IsSpelling, IsTextFault};
 
 use crate::form::syntax_fault;
 use crate::numbers::number_fault;
 use crate::order::{first_disorder, place};
-use crate::raw::{RawTerm, have_text, raw_terms};
-use crate::writer::write_poly;
+use crate::raw::{RawTerm, raw_terms};
 use monomial::Monomial;
-use sparse_poly::{Poly, Term};
+use sparse_poly::{Poly, PolyFault, Term};
 use std::alloc::{AllocError, AllocFailed, Global};
 use thiserror::Error;
 
@@ -48,55 +46,24 @@ impl From<AllocError> for PolyTextFault {
     }
 }
 
-fn are_below(unknowns: u32, powers: &[(u32, u16)]) -> bool
-    ensures { result ≡ list_all (λ p. nat_lt p.0 unknowns) powers.now }
-{
-    powers.iter().all(|power| power.0 < unknowns)
-}
-
-fn uses_below(unknowns: u32, terms: &[Term]) -> bool
-    ensures { result ≡ uses_below unknowns terms.now }
-{
-    terms
-        .iter()
-        .all(|term| are_below(unknowns, term.monomial.powers()))
-}
-
-/// Whether the text is the one spelling of the polynomial.
-fn is_spelling(alloc: Global, unknowns: u32, text: &[u8], poly: &Poly) -> Result<bool, AllocError>
-    ensures { IfOk result (λ b. IsTrue b → IsSpelling unknowns text.now poly.now) }
-{
-    let terms = poly.terms();
-    let mut written = Vec::new(alloc);
-    write_poly(poly, &mut written)?;
-    Ok(written.as_slice() == text && uses_below(unknowns, terms))
-}
-
-fn monomial_of(alloc: Global, powers: &[(u32, u16)]) -> Result<Monomial, AllocError> {
-    let mut product = Monomial::one(alloc);
-    for power in powers {
-        if power.1 > 0 {
-            match product.times(&Monomial::power(alloc, power.0, power.1)?) {
-                Ok(more) => product = more,
-                Err(_) => return Err(AllocError),
-            }
-        }
-    }
-    Ok(product)
-}
-
 /// The polynomial of terms in order.
-fn poly_of(alloc: Global, terms: &[RawTerm]) -> Result<Poly, AllocError> {
+fn poly_of(alloc: Global, terms: &[RawTerm]) -> Result<Poly, AllocError>
+    requires { IsPoly (map raw terms.now) }
+    ensures { IfOk result (λ p. p ≡ map raw terms.now) }
+{
     let mut list = Vec::new(alloc);
     for term in terms {
         list.push(Term {
-            monomial: monomial_of(alloc, &term.powers)?,
+            monomial: Monomial::from_powers(alloc, &term.powers)?,
             coeff: term.coeff,
         })?;
     }
     match Poly::from_terms(alloc, list) {
         Ok(poly) => Ok(poly),
-        Err(_) => Err(AllocError),
+        Err(fault) => match fault {
+            PolyFault::OutOfMemory => Err(AllocError),
+            _ => unreachable!(),
+        },
     }
 }
 
@@ -110,19 +77,11 @@ pub fn read_poly(alloc: Global, text: &[u8], unknowns: u32) -> Result<Poly, Poly
     if let Some(at) = number_fault(unknowns, text) {
         return Err(PolyTextFault::Number { at: at as u64 });
     }
-    // What was read is compared with the text, so that the proof rests on what is written. A text
-    // that has come so far is always that of its terms, and the polynomial of terms in order has it.
-    let terms = raw_terms(alloc, text)?;
-    if !have_text(alloc, &terms, text)? {
-        return Err(PolyTextFault::OutOfMemory);
-    }
+    let terms = raw_terms(alloc, unknowns, text)?;
     if let Some(disorder) = first_disorder(alloc, &terms)? {
         let at = place(alloc, &terms, disorder)?;
         return Err(PolyTextFault::Order { at: at as u64 });
     }
     let poly = poly_of(alloc, &terms)?;
-    if !is_spelling(alloc, unknowns, text, &poly)? {
-        return Err(PolyTextFault::OutOfMemory);
-    }
     Ok(poly)
 }
