@@ -303,7 +303,7 @@ not_begun : (k : ℕ) (xs : List ℕ) → begins_with xs k ≡ false → Lacks (
 not_begun k [] h = tt
 not_begun k (c ∷ cs) h = h
 
-live_behind : (u : ℕ) (s : State) (k : ℕ) (xs : List ℕ) → begins_with xs k ≡ true → IsLive u s xs → IsLive u (next s k) (drop 1 xs)
+pub live_behind : (u : ℕ) (s : State) (k : ℕ) (xs : List ℕ) → begins_with xs k ≡ true → IsLive u s xs → IsLive u (next s k) (drop 1 xs)
 live_behind u s k xs h l = (step u s k (drop 1 xs) (subst (IsLive u s) (begun k xs h) l)).live
 
 length_behind : (k : ℕ) (xs : List ℕ) → begins_with xs k ≡ true → length xs ≡ suc (length (drop 1 xs))

@@ -8,3 +8,4 @@ pub mod Written
 pub mod Ordered
 pub mod Read
 pub mod Answered
+pub mod Exists

@@ -1,5 +1,6 @@
 -- The order of terms and factors, and the first place that breaks it.
-use Rattle.std.specs.Prelude.{◌≡◌, ℕ, ◌+◌, Bool, true, nat_lt, ◌==◌, if◌then◌else◌, codes, Option, None, Some, option_map, List, [], ◌∷◌, ◌++◌, length, take, drop}
+use Rattle.std.specs.Prelude.{◌≡◌, ◌≤◌, ℕ, ◌+◌, Bool, true, nat_lt, ◌==◌, if◌then◌else◌, codes, Option, None, Some, option_map, List, [], ◌∷◌, ◌++◌, length, take, drop}
+use Rattle.std.specs.List.{AllByRecursion}
 use Rattle.std.specs.Ordering.{is_lt}
 use Rattle.monomial.specs.Monomials.{monomial_times, monomial_cmp}
 use Rattle.sparse_poly.specs.declared.Term.{Term}
@@ -12,6 +13,10 @@ use Rattle.poly_text.specs.declared.order.Disorder.TheVariants.{TermAt, FactorAt
 abbrev pub product : List (ℕ × ℕ) → List (ℕ × ℕ)
 product [] = []
 product (p ∷ ps) = monomial_times (p ∷ []) (product ps)
+
+-- each exponent is at most n
+abbrev pub AreAtMost : ℕ → List (ℕ × ℕ) → Type 0
+AreAtMost n ps = AllByRecursion (λ (p : ℕ × ℕ). p.1 ≤ n) ps
 
 -- the monomial is below the one before, where there is one
 abbrev pub is_below : Option (List (ℕ × ℕ)) → List (ℕ × ℕ) → Bool

@@ -1,6 +1,6 @@
 //! What the contracts say of texts and answers together.
 
-ghost use Rattle.std.specs.Prelude.{◌≡◌, ◌≢◌, ◌<◌, ◌^◌};
+ghost use Rattle.std.specs.Prelude.{◌≡◌, ◌≢◌, ◌<◌, ◌^◌, ◌⊎◌};
 ghost use Rattle.sparse_poly.specs.Contributions.{IsPoly};
 ghost use Rattle.poly_text.specs.Text.{poly_text};
 ghost use Rattle.poly_text.specs.Reading.{IsSpelling, IsTextFault};
@@ -12,9 +12,10 @@ pub fn text_law()
     ensures { (p q : _) → IsPoly p → IsPoly q → poly_text p ≡ poly_text q → p ≡ q }
 {}
 
-/// Apart from want of memory a text and a number of unknowns have at most one answer, a polynomial or
+/// Apart from want of memory a text and a number of unknowns have exactly one answer, a polynomial or
 /// a fault. So where there is memory, `read_poly` gives a fault exactly where the text has it.
 pub fn answer_law()
+    ensures some { (unknowns text : _) → unknowns < 2 ^ 32 → ((p : _) × IsSpelling unknowns text p) ⊎ ((fault : _) × IsTextFault unknowns text fault × (fault ≢ PolyTextFault.OutOfMemory)) }
     ensures ok { (unknowns text p fault : _) → unknowns < 2 ^ 32 → IsSpelling unknowns text p → IsTextFault unknowns text fault → fault ≡ PolyTextFault.OutOfMemory }
     ensures one { (unknowns text first second : _) → unknowns < 2 ^ 32 → IsTextFault unknowns text first → IsTextFault unknowns text second → first ≢ PolyTextFault.OutOfMemory → second ≢ PolyTextFault.OutOfMemory → first ≡ second }
     ensures poly { (unknowns text p q : _) → IsSpelling unknowns text p → IsSpelling unknowns text q → p ≡ q }

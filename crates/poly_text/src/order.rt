@@ -1,9 +1,9 @@
 //! The order of terms and factors.
 
-ghost use Rattle.std.specs.Prelude.{◌≡◌, ◌∷◌, ◌++◌, [], IfOk, OnOk, None, Some, option_map, map, take, drop};
+ghost use Rattle.std.specs.Prelude.{◌≡◌, ◌+◌, ◌^◌, ◌∷◌, ◌++◌, [], IfOk, OnOk, None, Some, option_map, map, take, drop};
 ghost use Rattle.std.specs.Ordering.{is_lt};
 ghost use Rattle.monomial.specs.Monomials.{monomial_times, monomial_cmp};
-ghost use Rattle.poly_text.specs.Order.{product, is_below, first_factor, disorder, first_disorder, front, part_text, place};
+ghost use Rattle.poly_text.specs.Order.{product, AreAtMost, is_below, first_factor, disorder, first_disorder, front, part_text, place};
 ghost use Rattle.poly_text.specs.Raw.{raw};
 
 use crate::raw::{RawTerm, push_raw_terms};
@@ -32,48 +32,48 @@ fn first_factor(powers: &[(u32, u16)]) -> Option<usize>
 }
 
 /// Multiplies a product by a power.
-fn multiply(powers: &mut Vec<(u32, u64)>, variable: u32, exponent: u64) -> Result<(), AllocError>
-    ensures { OnOk result (powers.new.items ≡ monomial_times ((variable, exponent) ∷ []) powers.old.items) }
+fn multiply(powers: &mut Vec<(u32, u128)>, variable: u32, exponent: u16) -> Result<(), AllocError>
+    requires { AreAtMost (2 ^ 127) powers.old.items }
+    ensures product { OnOk result (powers.new.items ≡ monomial_times ((variable, exponent) ∷ []) powers.old.items) }
+    ensures bounded { OnOk result ((n : _) → AreAtMost n powers.old.items → AreAtMost (65535 + n) powers.new.items) }
 {
     let mut place = 0;
     'place: while place < powers.len() && variable < powers[place].0 {
         place += 1;
     }
     if place < powers.len() && variable == powers[place].0 {
-        let Some(sum) = exponent.checked_add(powers[place].1) else {
-            return Err(AllocError);
-        };
+        let sum = exponent as u128 + powers[place].1;
         powers[place] = (variable, sum);
     } else {
-        powers.insert(place, (variable, exponent))?;
+        powers.insert(place, (variable, exponent as u128))?;
     }
     Ok(())
 }
 
 /// The product of factors in any order.
-fn product(alloc: Global, powers: &[(u32, u16)]) -> Result<Vec<(u32, u64)>, AllocError>
+fn product(alloc: Global, powers: &[(u32, u16)]) -> Result<Vec<(u32, u128)>, AllocError>
     ensures { IfOk result (λ v. v.items ≡ product powers.now) }
 {
     let mut product = Vec::new(alloc);
     let mut at = powers.len();
     'powers: while at > 0 {
         at -= 1;
-        multiply(&mut product, powers[at].0, powers[at].1 as u64)?;
+        multiply(&mut product, powers[at].0, powers[at].1)?;
     }
     Ok(product)
 }
 
-fn widened(alloc: Global, powers: &[(u32, u16)]) -> Result<Vec<(u32, u64)>, AllocError>
+fn widened(alloc: Global, powers: &[(u32, u16)]) -> Result<Vec<(u32, u128)>, AllocError>
     ensures { IfOk result (λ v. v.items ≡ powers.now) }
 {
     let mut wide = Vec::new(alloc);
     'powers: for power in powers {
-        wide.push((power.0, power.1 as u64))?;
+        wide.push((power.0, power.1 as u128))?;
     }
     Ok(wide)
 }
 
-fn is_less(first: &[(u32, u64)], second: &[(u32, u64)]) -> bool
+fn is_less(first: &[(u32, u128)], second: &[(u32, u128)]) -> bool
     ensures { result ≡ is_lt (monomial_cmp first.now second.now) }
 {
     first.cmp(second).is_lt()

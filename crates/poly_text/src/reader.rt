@@ -67,7 +67,8 @@ fn poly_of(alloc: Global, terms: &[RawTerm]) -> Result<Poly, AllocError>
     }
 }
 
-/// Reads the one spelling of a polynomial whose variables are below `unknowns`.
+/// Reads the one spelling of a polynomial whose variables are below `unknowns`. Where there is memory,
+/// the answer is the one that the text has (`answer_law`).
 pub fn read_poly(alloc: Global, text: &[u8], unknowns: u32) -> Result<Poly, PolyTextFault>
     ensures { MatchResult result (IsSpelling unknowns text.now) (IsTextFault unknowns text.now) }
 {
