@@ -1,24 +1,23 @@
 -- A symbol minus its value: its contributions are light, and in every field it vanishes exactly where the symbol has the value.
 use Rattle.std.specs.Prelude.{◌≡◌, ◌<◌, ◌≤◌, ◌+◌, ◌↔◌, ℕ, zero, suc, Bool, true, false, if◌then◌else◌, ℤ, pos, negsuc, neg_ℤ, ◌+ℤ◌, unsigned_abs, List, [], ◌∷◌, ◌++◌, All, Contains, take, length, refl}
-use Rattle.std.proofs.Common.{arith, sym as back, ◌∙◌, ap, subst, ◌⊎◌, inl, inr, get_or}
+use Rattle.std.proofs.Common.{arith, sym as back, ◌∙◌, ap, subst, inl, inr, get_or}
 use Rattle.std.proofs.lemmas.Int.{ints}
 use Rattle.std.proofs.lemmas.List.{take_more}
 use Rattle.std.proofs.lemmas.List.Elements.{All-contains, All-contains_itself, All-weaker, Contains-append_left, Contains-push, Contains-push_cases}
 use Rattle.std.specs.Ordering.{is_eq}
-use Rattle.field_laws.specs.Field.{Field, IsField, IsElement, AllElements, whole}
+use Rattle.field_laws.specs.Field.{Field, IsField, AllElements, whole}
 use Rattle.field_laws.proofs.FieldSteps.{whole_is, same_of_difference, difference_of_same}
 use Rattle.monomial.specs.Monomials.{monomial_cmp}
 use Rattle.sparse_poly.specs.declared.Term.{Term}
-use Rattle.sparse_poly.specs.Polynomials.{eval, coefficient, weight, is_of, negated, constant, IsSum}
-use Rattle.sparse_poly.specs.Contributions.{max_coeff, degree_of, IsHeaviest, IsResult}
+use Rattle.sparse_poly.specs.Polynomials.{eval, coefficient, weight, is_of, negated, constant}
+use Rattle.sparse_poly.specs.Contributions.{max_coeff, IsHeaviest, IsResult}
 use Rattle.sparse_poly.proofs.Evaluation.{eval-append, eval-same, eval-negated}
 use Rattle.fusion_ring.specs.Fusion.{Fusion}
-use Rattle.symbol_index.specs.declared.Symbol.{Symbol}
 use Rattle.symbol_index.specs.declared.GaugeEntry.{GaugeEntry}
 use Rattle.symbol_index.specs.declared.Standing.TheVariants.{Unknown}
 use Rattle.symbol_index.specs.Symbols.{standing}
 use Rattle.symbol_equations.specs.Values.{symbol_value}
-use Rattle.symbol_equations.specs.Differences.{symbol_terms, standing_terms}
+use Rattle.symbol_equations.specs.Differences.{symbol_terms}
 use Rattle.symbol_equations.proofs.Vanishing.{value_is, eval-standing}
 use Rattle.gauge_fix.specs.Gauge.{Gauge, IsGaugeDifference, AreGaugeDifferences}
 

@@ -1,5 +1,5 @@
 -- The chains of conditions that list the labels of the inverses.
-use Rattle.std.specs.Prelude.{◌≡◌, ◌↔◌, ℕ, Bool, true, IsTrue, ◌&&◌, Contains, refl}
+use Rattle.std.specs.Prelude.{◌≡◌, ◌↔◌, ℕ, true, IsTrue, Contains, refl}
 use Rattle.label_tuples.specs.Extended.{Longer, all_fours}
 use Rattle.label_tuples.proofs.Members.{fours_contain}
 use Rattle.fusion_ring.specs.Fusion.{Fusion, channel}

@@ -1,5 +1,5 @@
 -- A problem has one list of root equations: the differences are determined, and so are their primitive parts and their order.
-use Rattle.std.specs.Prelude.{◌≡◌, ◌≢◌, ◌<◌, ◌≤◌, ℕ, List, [], ◌∷◌, ◌++◌, length, Contains, refl}
+use Rattle.std.specs.Prelude.{◌≡◌, ◌≢◌, ℕ, List, [], ◌∷◌, ◌++◌, length, Contains, refl}
 use Rattle.std.proofs.Common.{arith, sym, ◌∙◌, ap, subst, ◌⊎◌, inl, inr}
 use Rattle.std.specs.List.Sorted.{IsStrictlySortedBy}
 use Rattle.std.specs.Cmp.{IsTotalOrder}
@@ -18,7 +18,6 @@ use Rattle.sparse_poly.proofs.PrimitiveParts.{one_primitive_part}
 use Rattle.fusion_ring.specs.Fusion.{Fusion}
 use Rattle.symbol_index.specs.declared.Symbol.{Symbol}
 use Rattle.symbol_index.specs.declared.GaugeEntry.{GaugeEntry}
-use Rattle.symbol_index.specs.Symbols.{unknowns, max_unknowns}
 use Rattle.symbol_equations.specs.Differences.{AreDifferences}
 use Rattle.symbol_equations.proofs.Listed.{differences_contained}
 use Rattle.pentagon_gen.specs.Differences.{IsPentagonEquation}

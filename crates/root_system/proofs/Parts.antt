@@ -1,6 +1,6 @@
 -- The primitive parts of one polynomial more, and the same members in another order.
 use Rattle.std.specs.Prelude.{◌≡◌, ◌≢◌, ◌<◌, ◌≤◌, ◌+◌, ◌↔◌, ℕ, length, List, [], ◌∷◌, ◌++◌, Contains, refl}
-use Rattle.std.proofs.Common.{arith, ◌⊎◌, subst, inl, inr, get_or, take}
+use Rattle.std.proofs.Common.{arith, subst, inl, inr, get_or, take}
 use Rattle.std.proofs.lemmas.List.{take_more, take_all}
 use Rattle.std.proofs.lemmas.List.Elements.{Contains-push, Contains-append_left, Contains-push_cases}
 use Rattle.sparse_poly.specs.declared.Term.{Term}

@@ -1,6 +1,6 @@
 -- Where a property holds of all differences, and where of their primitive parts.
-use Rattle.std.specs.Prelude.{◌≡◌, ◌↔◌, List, [], ◌++◌, All, Contains, refl}
-use Rattle.std.proofs.Common.{sym, subst, ◌⊎◌, inl, inr}
+use Rattle.std.specs.Prelude.{◌≡◌, ◌↔◌, List, [], ◌++◌, All, Contains}
+use Rattle.std.proofs.Common.{sym, subst, inl, inr}
 use Rattle.std.specs.Result.{IfOk}
 use Rattle.std.specs.declared.result.Result.{Result}
 use Rattle.std.specs.declared.result.Result.TheVariants.{Ok, Err}

@@ -1,5 +1,5 @@
 -- The line and the exit status of each status.
-use Rattle.std.specs.Prelude.{ℕ, List, [], ◌++◌, codes, decimal}
+use Rattle.std.specs.Prelude.{ℕ, List, ◌++◌, codes, decimal}
 use Rattle.fusion_ring.specs.declared.RingFault.{RingFault}
 use Rattle.fusion_ring.specs.declared.RingFault.TheVariants.{LabelCount, LabelRange, Multiplicity, UnitFault, DualFault, NotCommutative, NotAssociative}
 use Rattle.ring_file.specs.declared.Place.{Place}

@@ -1,4 +1,4 @@
-use Rattle.std.proofs.Common.{rules, ◌≡◌, refl}
+use Rattle.std.proofs.Common.{rules, ◌≡◌}
 use Rattle.gauge_fix.proofs.Fixed.{fixed_terms, fixed_not_heavy, fixed_difference}
 use Rattle.gauge_fix.proofs.gauge.gauge_difference.Goals as goal
 

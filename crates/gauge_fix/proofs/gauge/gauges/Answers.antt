@@ -1,4 +1,3 @@
-use Rattle.std.proofs.Common.{rules, refl}
 use Rattle.std.proofs.lemmas.List.{get_or_default}
 use Rattle.gauge_fix.proofs.Fixed.{fixed_more}
 use Rattle.gauge_fix.proofs.gauge.gauges.Goals as goal

@@ -1,4 +1,4 @@
-use Rattle.std.proofs.Common.{rules, ◌≡◌, [], ◌∷◌, ◌++◌}
+use Rattle.std.proofs.Common.{rules}
 use Rattle.root_system.proofs.Parts.{parts_push, parts_skip, parts_whole}
 use Rattle.root_system.proofs.primitive.primitive_parts.Goals as goal
 

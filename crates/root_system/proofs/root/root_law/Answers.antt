@@ -1,4 +1,4 @@
-use Rattle.std.proofs.Common.{◌≡◌, refl, [], List}
+use Rattle.std.proofs.Common.{◌≡◌, refl, List}
 use Rattle.sparse_poly.specs.declared.Term.{Term}
 use Rattle.sparse_poly.specs.Polynomials.{eval}
 use Rattle.root_system.proofs.Vanishing.{all_of_parts, all_four}

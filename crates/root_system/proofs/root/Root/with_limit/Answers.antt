@@ -1,4 +1,4 @@
-use Rattle.std.proofs.Common.{rules, arith, ◌≡◌, length, sym, ◌∙◌, ap, subst}
+use Rattle.std.proofs.Common.{rules, arith, ◌≡◌, length, sym, subst}
 use Rattle.std.specs.Prelude.{All}
 use Rattle.symbol_index.specs.Symbols.{unknowns}
 use Rattle.root_system.specs.Forms.{IsRootEquation}
