@@ -1,7 +1,7 @@
 //! Products of powers of variables, in the order of the greatest variable.
 #![tactic(auto)]
 
-ghost use Rattle.std.specs.Prelude.{◌≡◌, ◌<◌, ◌≤◌, ℕ, ◌+◌, List, [], ◌∷◌, ◌++◌, IfOk, MatchResult, IsTrue, ◌↔◌};
+ghost use Rattle.std.specs.Prelude.{◌≡◌, ◌<◌, ◌≤◌, ℕ, ◌+◌, List, [], ◌∷◌, ◌++◌, IfOk, MatchResult, IsTrue, ◌↔◌, length, slice_index_or};
 ghost use Rattle.std.specs.declared.option.Option.TheVariants.{None, Some};
 ghost use Rattle.monomial.specs.Monomials.{monomial_cmp, monomial_times, exponent, top, too_high, Divides, IsMonomial, IsProductOf, IsFaultOf, each_divides, lowered, without};
 
@@ -103,6 +103,23 @@ impl Monomial {
         ensures monomial { IsMonomial self.now }
     {
         self.powers.as_slice()
+    }
+
+    /// The number of powers.
+    pub fn len(&self) -> usize
+        ensures value { result ≡ length self.now }
+        ensures monomial { IsMonomial self.now }
+    {
+        self.powers.as_slice().len()
+    }
+
+    /// The power `(variable, exponent)` at a place, where places count from the greatest variable down.
+    pub fn power_at(&self, place: usize) -> (u32, u16)
+        requires { place < length self.now }
+        ensures value { result ≡ slice_index_or self.now place (0, 0) }
+        ensures bound { result.1 ≤ 65535 }
+    {
+        small(self.powers.as_slice()[place])
     }
 
     /// The greatest variable, and `None` exactly for the monomial one.

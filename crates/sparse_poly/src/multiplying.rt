@@ -111,7 +111,7 @@ fn gathered(alloc: Global, terms: Vec<Term>) -> Result<Vec<Share>, AllocError>
     let mut terms = terms;
     let mut shares = Vec::with_capacity(alloc, terms.len())?;
     'terms: while let Some(term) = terms.pop() {
-        let _powers = term.monomial.powers();
+        let _powers = term.monomial.len();
         shares.push(share_of(term.monomial, term.coeff, 1, false))?;
     }
     Ok(shares)

@@ -18,7 +18,7 @@ pub fn squeeze(shares: Vec<Share>) -> Result<Vec<Term>, PolyFault>
                 monomial: share.monomial,
             });
         }
-        let _powers = share.monomial.powers();
+        let _powers = share.monomial.len();
         if share.sum != 0 {
             terms.push(Term {
                 monomial: share.monomial,

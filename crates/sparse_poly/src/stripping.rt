@@ -92,7 +92,7 @@ pub fn quotients(
     let mut rest = Vec::with_capacity(alloc, terms.len())?;
     for term in terms {
         let quotient = term.monomial.over(monomial)?;
-        let _powers = quotient.powers();
+        let _powers = quotient.len();
         rest.push(Term {
             monomial: quotient,
             coeff: exact_quotient(term.coeff, divisor),

@@ -15,7 +15,7 @@ shares-preserved-in-Continue-branch-2 c =
     let items : c.shares.shares.items ≡ c.pop.new.self.items ++ c.in-Some.share ∷ [] = search rules in
     let light : c.in-Some.share.weight ≤ max_coeff = omega (arith, c.if-share.false) in
     let same : to_z w128 (of_z w128 c.in-Some.share.sum) ≡ c.in-Some.share.sum = search rules in
-    rw (c.in_ok-push.ensures.items, same) (Squeezed-pushed _ c.pop.new.self.items _ c.in-Some.share (rw items at c.shares.invariant) light (apart_bits _ c.if-share-ne0.true) c.powers-powers.ensures.monomial)
+    rw (c.in_ok-push.ensures.items, same) (Squeezed-pushed _ c.pop.new.self.items _ c.in-Some.share (rw items at c.shares.invariant) light (apart_bits _ c.if-share-ne0.true) c.len-powers.ensures.monomial)
 
 pub shares-preserved-else-share-ne0 : goal.shares-preserved-else-share-ne0
 shares-preserved-else-share-ne0 c =

@@ -19,4 +19,4 @@ loop-term-preserved c =
     let second : to_z w128 (of_z w128 c.term-item.result.coeff) ≡ c.term-item.result.coeff = search rules in
     let value : to_z w128 (of_z w128 c.exact_quotient.result) ≡ c.exact_quotient.result = search rules in
     let exact : c.args.divisor *ℤ c.exact_quotient.result ≡ c.term-item.result.coeff = rw (first, second) at c.exact_quotient.ensures in
-    rw first (IsQuotient-more c.args.terms.now c.loop-term.term-index c.term-item.result c.args.monomial.now c.in_ok-quotient.quotient c.args.divisor c.exact_quotient.result c.loop-term.rest.items _ c.loop-term-test.true c.term-item.is (rw first at c.loop-term.invariant) c.in_ok-quotient.ensures exact c.powers-powers.ensures.monomial (rw value at c.in_ok-push.ensures.items))
+    rw first (IsQuotient-more c.args.terms.now c.loop-term.term-index c.term-item.result c.args.monomial.now c.in_ok-quotient.quotient c.args.divisor c.exact_quotient.result c.loop-term.rest.items _ c.loop-term-test.true c.term-item.is (rw first at c.loop-term.invariant) c.in_ok-quotient.ensures exact c.len-powers.ensures.monomial (rw value at c.in_ok-push.ensures.items))
