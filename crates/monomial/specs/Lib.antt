@@ -1,1 +1,3 @@
 pub mod Monomials
+pub mod Keys
+pub mod Stored

@@ -5,7 +5,9 @@ ghost use Rattle.std.specs.Prelude.{◌≡◌, ◌<◌, ◌≤◌, ℕ, ◌+◌,
 ghost use Rattle.std.specs.declared.option.Option.TheVariants.{None, Some};
 ghost use Rattle.monomial.specs.Monomials.{monomial_cmp, monomial_times, exponent, top, too_high, Divides, IsMonomial, IsProductOf, IsFaultOf, each_divides, lowered, without};
 
-use smallvec::SmallVec;
+mod powers;
+
+use powers::Powers;
 use std::alloc::{AllocError, AllocFailed, Global};
 use std::cmp::Ordering;
 use std::marker::Model;
@@ -13,7 +15,7 @@ use std::marker::Model;
 /// A product of powers of variables, seen as the list of its powers `(variable, exponent)` from the greatest variable down.
 #[derive(Drop)]
 pub struct Monomial {
-    powers: SmallVec<(u32, u16), 6>,
+    powers: Powers,
 }
 
 impl Model for Monomial {
@@ -22,9 +24,9 @@ impl Model for Monomial {
 
     ghost Value = { List (ℕ × ℕ) };
 
-    ghost view = { λ m. m.powers.items };
+    ghost view = { λ m. m.powers };
 
-    ghost invariant = { λ m. IsMonomial m.powers.items };
+    ghost invariant = { λ m. IsMonomial m.powers };
 }
 
 /// Why a product is not made.
@@ -64,7 +66,7 @@ impl Monomial {
         ensures { result ≡ [] }
     {
         Monomial {
-            powers: SmallVec::new(alloc),
+            powers: Powers::new(alloc),
         }
     }
 
@@ -73,7 +75,7 @@ impl Monomial {
         requires { 1 ≤ exp }
         ensures { IfOk result (λ m. m ≡ (var, exp) ∷ []) }
     {
-        let mut powers = SmallVec::new(alloc);
+        let mut powers = Powers::new(alloc);
         powers.push((var, exp))?;
         Ok(Monomial { powers })
     }
@@ -83,9 +85,11 @@ impl Monomial {
         requires { IsMonomial powers.now }
         ensures { IfOk result (λ m. m ≡ powers.now) }
     {
-        Ok(Monomial {
-            powers: SmallVec::from_slice(alloc, powers)?,
-        })
+        let mut list = Powers::new(alloc);
+        for power in powers {
+            list.push(small(*power))?;
+        }
+        Ok(Monomial { powers: list })
     }
 
     /// An equal monomial. It fails only where no memory is left.
@@ -93,16 +97,8 @@ impl Monomial {
         ensures { IfOk result (λ m. m ≡ self.now) }
     {
         Ok(Monomial {
-            powers: SmallVec::from_slice(*self.powers.allocator(), self.powers.as_slice())?,
+            powers: self.powers.copy()?,
         })
-    }
-
-    /// The powers `(variable, exponent)`, from the greatest variable down.
-    pub fn powers(&self) -> &[(u32, u16)]
-        ensures value { result.now ≡ self.now }
-        ensures monomial { IsMonomial self.now }
-    {
-        self.powers.as_slice()
     }
 
     /// The number of powers.
@@ -110,7 +106,7 @@ impl Monomial {
         ensures value { result ≡ length self.now }
         ensures monomial { IsMonomial self.now }
     {
-        self.powers.as_slice().len()
+        self.powers.len()
     }
 
     /// The power `(variable, exponent)` at a place, where places count from the greatest variable down.
@@ -119,46 +115,45 @@ impl Monomial {
         ensures value { result ≡ slice_index_or self.now place (0, 0) }
         ensures bound { result.1 ≤ 65535 }
     {
-        small(self.powers.as_slice()[place])
+        self.powers.power_at(place)
     }
 
     /// The greatest variable, and `None` exactly for the monomial one.
     pub fn top(&self) -> Option<u32>
         ensures { result ≡ top self.now }
     {
-        match self.powers().first() {
-            Some(power) => Some(power.0),
-            None => None,
+        if self.len() == 0 {
+            return None;
         }
+        Some(self.power_at(0).0)
     }
 
     /// The exponent of a variable, which is 0 where it does not occur.
     pub fn exponent(&self, var: u32) -> u32
         ensures { result ≡ exponent self.now var }
     {
-        exponent_in(self.powers(), var)
+        exponent_in(&self.powers, var)
     }
 
     /// The order of monomials: a is below b where, at the greatest variable in which their exponents differ, a has the smaller exponent.
     pub fn order(&self, other: &Monomial) -> Ordering
         ensures { result ≡ monomial_cmp self.now other.now }
     {
-        self.powers.as_slice().cmp(other.powers.as_slice())
+        self.powers.order(&other.powers)
     }
 
     /// Whether this monomial divides the other: no exponent is above that of the other.
     pub fn divides(&self, other: &Monomial) -> bool
         ensures { IsTrue result ↔ Divides self.now other.now }
     {
-        divides_powers(self.powers(), other.powers())
+        divides_powers(&self.powers, &other.powers)
     }
 
     /// The product, whose exponents are the sums. `Degree` comes exactly where a sum is above 65,535, with the greatest such variable.
     pub fn times(&self, other: &Monomial) -> Result<Monomial, MonoFault>
         ensures { MatchResult result (IsProductOf self.now other.now) (IsFaultOf self.now other.now) }
     {
-        let alloc = *self.powers.allocator();
-        let powers = product(alloc, self.powers(), other.powers())?;
+        let powers = product(&self.powers, &other.powers)?;
         Ok(Monomial { powers })
     }
 
@@ -166,7 +161,7 @@ impl Monomial {
     pub fn without(&self, var: u32) -> Result<Monomial, AllocError>
         ensures { IfOk result (λ m. m ≡ without var self.now) }
     {
-        let powers = other_powers(*self.powers.allocator(), self.powers(), var)?;
+        let powers = other_powers(&self.powers, var)?;
         Ok(Monomial { powers })
     }
 
@@ -175,88 +170,84 @@ impl Monomial {
         requires { Divides divisor.now self.now }
         ensures { IfOk result (λ m. monomial_times divisor.now m ≡ self.now) }
     {
-        let powers = quotient(*self.powers.allocator(), self.powers(), divisor.powers())?;
+        let powers = quotient(&self.powers, &divisor.powers)?;
         Ok(Monomial { powers })
     }
 }
 
 // The exponent of a variable in a list of powers.
-fn exponent_in(powers: &[(u32, u16)], var: u32) -> u32
+fn exponent_in(powers: &Powers, var: u32) -> u32
     ensures { result ≡ exponent powers.now var }
 {
-    for power in powers {
-        let power = small(*power);
+    let mut i = 0;
+    'powers: while i < powers.len() {
+        let power = powers.power_at(i);
         if power.0 == var {
             return u32::from(power.1);
         }
+        i += 1;
     }
     0
 }
 
 // Whether each power of the divisor divides a list of powers.
-fn divides_powers(divisor: &[(u32, u16)], powers: &[(u32, u16)]) -> bool
+fn divides_powers(divisor: &Powers, powers: &Powers) -> bool
     ensures { result ≡ each_divides divisor.now powers.now }
 {
-    for power in divisor {
-        let power = small(*power);
+    let mut i = 0;
+    'powers: while i < divisor.len() {
+        let power = divisor.power_at(i);
         if exponent_in(powers, power.0) < u32::from(power.1) {
             return false;
         }
+        i += 1;
     }
     true
 }
 
 // The powers of other variables.
-fn other_powers(
-    alloc: Global,
-    powers: &[(u32, u16)],
-    var: u32,
-) -> Result<SmallVec<(u32, u16), 6>, AllocError>
-    ensures { IfOk result (λ v. v.items ≡ without var powers.now) }
+fn other_powers(powers: &Powers, var: u32) -> Result<Powers, AllocError>
+    ensures { IfOk result (λ v. v ≡ without var powers.now) }
 {
-    let mut left: SmallVec<(u32, u16), 6> = SmallVec::new(alloc);
-    for power in powers {
-        let power = small(*power);
+    let mut left = Powers::new(powers.allocator());
+    let mut i = 0;
+    'powers: while i < powers.len() {
+        let power = powers.power_at(i);
         if power.0 != var {
             left.push(power)?;
         }
+        i += 1;
     }
     Ok(left)
 }
 
 // The powers of a quotient: each exponent less that of the divisor.
-fn quotient(
-    alloc: Global,
-    powers: &[(u32, u16)],
-    divisor: &[(u32, u16)],
-) -> Result<SmallVec<(u32, u16), 6>, AllocError>
-    ensures { IfOk result (λ v. v.items ≡ lowered powers.now divisor.now) }
+fn quotient(powers: &Powers, divisor: &Powers) -> Result<Powers, AllocError>
+    ensures { IfOk result (λ v. v ≡ lowered powers.now divisor.now) }
 {
-    let mut left: SmallVec<(u32, u16), 6> = SmallVec::new(alloc);
-    for power in powers {
-        let power = small(*power);
+    let mut left = Powers::new(powers.allocator());
+    let mut i = 0;
+    'powers: while i < powers.len() {
+        let power = powers.power_at(i);
         let less = exponent_in(divisor, power.0);
         if less < u32::from(power.1) {
             left.push((power.0, (u32::from(power.1) - less) as u16))?;
         }
+        i += 1;
     }
     Ok(left)
 }
 
 // The product of two lists of powers.
-fn product(
-    alloc: Global,
-    first: &[(u32, u16)],
-    second: &[(u32, u16)],
-) -> Result<SmallVec<(u32, u16), 6>, MonoFault>
-    ensures { MatchResult result (λ v. IsProductOf first.now second.now v.items) (IsFaultOf first.now second.now) }
+fn product(first: &Powers, second: &Powers) -> Result<Powers, MonoFault>
+    ensures { MatchResult result (IsProductOf first.now second.now) (IsFaultOf first.now second.now) }
 {
-    let mut powers: SmallVec<(u32, u16), 6> = SmallVec::new(alloc);
+    let mut powers = Powers::new(first.allocator());
     let mut i = 0;
     let mut j = 0;
     'both: while i < first.len() && j < second.len() {
-        let x = small(first[i]);
-        let y = small(second[j]);
+        let x = first.power_at(i);
+        let y = second.power_at(j);
         match x.0.cmp(&y.0) {
             Ordering::Less => {
                 powers.push(y)?;
@@ -278,11 +269,11 @@ fn product(
         }
     }
     'left: while i < first.len() {
-        powers.push(small(first[i]))?;
+        powers.push(first.power_at(i))?;
         i += 1;
     }
     'right: while j < second.len() {
-        powers.push(small(second[j]))?;
+        powers.push(second.power_at(j))?;
         j += 1;
     }
     Ok(powers)

@@ -8,7 +8,7 @@
 mod making;
 
 use making::{Numbers, Shape, random_poly};
-use monomial::MonoFault;
+use monomial::{MonoFault, Monomial};
 use sparse_poly::{Poly, PolyFault};
 use std::alloc::{AllocError, AllocFailed, Global};
 use std::process::ExitCode;
@@ -168,15 +168,16 @@ fn checksum(poly: &Poly) -> u64 {
     let mut sum = 0u64;
     for term in poly.terms() {
         let size = (term.coeff.unsigned_abs() % 1_000_000_007) as u64;
-        sum = sum.wrapping_add(hash(term.monomial.powers()).wrapping_mul(size));
+        sum = sum.wrapping_add(hash(&term.monomial).wrapping_mul(size));
     }
     sum
 }
 
 // A number that depends on each power.
-fn hash(powers: &[(u32, u16)]) -> u64 {
+fn hash(monomial: &Monomial) -> u64 {
     let mut hash = 1u64;
-    for power in powers {
+    for place in 0..monomial.len() {
+        let power = monomial.power_at(place);
         hash = hash.wrapping_mul(31).wrapping_add(u64::from(power.0));
         hash = hash.wrapping_mul(31).wrapping_add(u64::from(power.1));
     }

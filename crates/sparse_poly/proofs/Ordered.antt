@@ -18,38 +18,6 @@ use Rattle.sparse_poly.specs.Contributions.{higher, IsFalling, IsPoly}
 use Rattle.sparse_poly.specs.Reads.{main_variable}
 use Rattle.sparse_poly.specs.Order.{poly_cmp}
 
-drop_end : (xs : List Term) (k : ℕ) → k ≡ length xs → drop k xs ≡ []
-drop_end xs k e = ap (λ n. drop n xs) e ∙ all xs
-  where
-    all : (xs : List Term) → drop (length xs) xs ≡ []
-    all [] = refl
-    all (x ∷ xs) = all xs
-
-none_first : (ys : List Term) → poly_cmp [] ys ≡ nat_cmp 0 (length ys)
-none_first [] = refl
-none_first (y ∷ ys) = nat_cmp_is 0 (length (y ∷ ys)) Less (omega arith)
-
-none_second : (xs : List Term) → poly_cmp xs [] ≡ nat_cmp (length xs) 0
-none_second [] = refl
-none_second (x ∷ xs) = nat_cmp_is (length (x ∷ xs)) 0 Greater (omega arith)
-
-shifted : (a b c d k : ℕ) → c ≡ a + k → d ≡ b + k → nat_cmp a b ≡ nat_cmp c d
-shifted a b c d k e f = nat_cmp_is c d (nat_cmp a b) (each (nat_cmp a b) (ranked a b (nat_cmp a b) refl))
-  where
-    each : (o : Ordering) → MatchOrdering o (a < b) (a ≡ b) (b < a) → MatchOrdering o (c < d) (c ≡ d) (d < c)
-    each Less h = omega arith
-    each Equal h = omega arith
-    each Greater h = omega arith
-
--- where one of two lists has ended, their lengths decide
-pub ended_first : (xs ys : List Term) (k : ℕ) → k ≡ length xs → k ≤ length ys → poly_cmp (drop k xs) (drop k ys) ≡ nat_cmp (length xs) (length ys)
-ended_first xs ys k e l =
-    ap (λ zs. poly_cmp zs (drop k ys)) (drop_end xs k e) ∙ none_first (drop k ys) ∙ shifted 0 (length (drop k ys)) (length xs) (length ys) k (omega arith) (omega (arith, length-drop k ys))
-
-pub ended_second : (xs ys : List Term) (k : ℕ) → k ≤ length xs → k ≡ length ys → poly_cmp (drop k xs) (drop k ys) ≡ nat_cmp (length xs) (length ys)
-ended_second xs ys k l e =
-    ap (λ zs. poly_cmp (drop k xs) zs) (drop_end ys k e) ∙ none_second (drop k xs) ∙ shifted (length (drop k xs)) 0 (length xs) (length ys) k (omega (arith, length-drop k xs)) (omega arith)
-
 -- a lower monomial has no greater variable
 no_higher : (m n : List (ℕ × ℕ)) → monomial_cmp n m ≡ Less → higher (top m) (top n) ≡ top m
 no_higher [] [] e = refl

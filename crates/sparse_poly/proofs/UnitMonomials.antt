@@ -172,6 +172,13 @@ unit_exponent_below units ts p =
       | false ↦ all_zero p.0 0 ts refl
     ]
 
+-- the monomial of the leading term
+pub IsMonomial-leading : (ts : List Term) (t : Term) → Some t ≡ slice_get ts 0 → IsPoly ts → IsMonomial t.monomial
+IsMonomial-leading [] t e h = absurd (cc e)
+IsMonomial-leading (x ∷ xs) t e h =
+    let same : t ≡ x = cc e in
+    subst (λ (u : Term). IsMonomial u.monomial) (sym same) h.monomials.0
+
 pub IsUnitMonomial-from : (units : List (List Term)) (ts : List Term) (t : Term) → Some t ≡ slice_get ts 0 → IsPoly ts → IsUnitMonomial units ts (unit_powers units ts t.monomial)
 IsUnitMonomial-from units [] t e h = absurd (cc e)
 IsUnitMonomial-from units (x ∷ xs) t e h = record {
@@ -186,7 +193,7 @@ IsUnitMonomial-from units (x ∷ xs) t e h = record {
     same = cc e
 
     own : IsMonomial t.monomial
-    own = subst (λ (u : Term). IsMonomial u.monomial) (sym same) h.monomials.0
+    own = IsMonomial-leading (x ∷ xs) t e h
 
     each : (v : ℕ) → ((exponent t.monomial v ≡ 0) × (exponent (unit_powers units (x ∷ xs) t.monomial) v ≡ 0)) ⊎ ((0 < exponent t.monomial v) × (exponent (unit_powers units (x ∷ xs) t.monomial) v ≡ unit_exponent units (x ∷ xs) (v, exponent t.monomial v))) → AllByRecursion (λ (u : Term). exponent (unit_powers units (x ∷ xs) t.monomial) v ≤ exponent u.monomial v) (x ∷ xs)
     each v (inl r) = all_zero v _ (x ∷ xs) r.1

@@ -142,32 +142,26 @@ fn unit_exponent(
     Ok(0)
 }
 
-// The powers of units, of those in a list, that divide the terms.
+// The powers of units, of those in a monomial, that divide the terms.
 fn unit_powers(
     alloc: Global,
     terms: &[Term],
     units: &[Poly],
-    powers: &[(u32, u16)],
-) -> Result<SmallVec<(u32, u16), 6>, AllocError>
-    ensures { IfOk result (λ v. v.items ≡ unit_powers units.now terms.now powers.now) }
+    monomial: &Monomial,
+) -> Result<SmallVec<(u32, u16), 8>, AllocError>
+    ensures { IfOk result (λ v. v.items ≡ unit_powers units.now terms.now monomial.now) }
 {
-    let mut left: SmallVec<(u32, u16), 6> = SmallVec::new(alloc);
-    for power in powers {
-        let power = small(*power);
+    let mut left: SmallVec<(u32, u16), 8> = SmallVec::new(alloc);
+    let mut i = 0;
+    'powers: while i < monomial.len() {
+        let power = monomial.power_at(i);
         let times = unit_exponent(alloc, terms, units, power)?;
         if times > 0 {
             left.push((power.0, times as u16))?;
         }
+        i += 1;
     }
     Ok(left)
-}
-
-// A power, whose exponent fits its type.
-fn small(power: (u32, u16)) -> (u32, u16)
-    ensures same { result ≡ power }
-    ensures bound { power.1 ≤ 65535 }
-{
-    power
 }
 
 /// The greatest monomial in variables that are units which divides all terms, and one for no terms.
@@ -178,7 +172,7 @@ pub fn unit_monomial(alloc: Global, terms: &[Term], units: &[Poly]) -> Result<Mo
     let Some(leading) = terms.first() else {
         return Ok(Monomial::one(alloc));
     };
-    let powers = unit_powers(alloc, terms, units, leading.monomial.powers())?;
+    let powers = unit_powers(alloc, terms, units, &leading.monomial)?;
     match Monomial::from_powers(alloc, powers.as_slice()) {
         Ok(monomial) => Ok(monomial),
         Err(e) => Err(e),
