@@ -3,4 +3,4 @@ pub mod Total
 pub mod Exponents
 pub mod Lower
 pub mod Ended
-pub mod Keys
+pub mod KeyOrder

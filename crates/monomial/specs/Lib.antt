@@ -1,3 +1,4 @@
 pub mod Monomials
 pub mod Keys
+pub mod KeyProducts
 pub mod Stored

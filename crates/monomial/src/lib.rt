@@ -5,6 +5,7 @@ ghost use Rattle.std.specs.Prelude.{◌≡◌, ◌<◌, ◌≤◌, ℕ, ◌+◌,
 ghost use Rattle.std.specs.declared.option.Option.TheVariants.{None, Some};
 ghost use Rattle.monomial.specs.Monomials.{monomial_cmp, monomial_times, exponent, top, too_high, Divides, IsMonomial, IsProductOf, IsFaultOf, each_divides, lowered, without};
 
+mod keys;
 mod powers;
 
 use powers::Powers;
@@ -153,7 +154,7 @@ impl Monomial {
     pub fn times(&self, other: &Monomial) -> Result<Monomial, MonoFault>
         ensures { MatchResult result (IsProductOf self.now other.now) (IsFaultOf self.now other.now) }
     {
-        let powers = product(&self.powers, &other.powers)?;
+        let powers = self.powers.times(&other.powers)?;
         Ok(Monomial { powers })
     }
 

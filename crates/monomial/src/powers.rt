@@ -1,45 +1,15 @@
 //! Lists of powers, which take little room where the powers are few.
-ghost use Rattle.std.specs.Prelude.{◌≡◌, ◌≢◌, ◌<◌, ◌≤◌, ◌/◌, ◌%◌, ℕ, ◌+◌, List, [], ◌∷◌, ◌++◌, IfOk, OnOk, MatchOption, map, length, slice_index_or};
+ghost use Rattle.std.specs.Prelude.{◌≡◌, ◌≢◌, ◌<◌, ◌≤◌, ◌/◌, ◌%◌, ℕ, ◌+◌, List, [], ◌∷◌, ◌++◌, IfOk, OnOk, MatchOption, MatchResult, map, length, slice_index_or};
 ghost use Rattle.std.specs.declared.option.Option.TheVariants.{None, Some};
-ghost use Rattle.monomial.specs.Monomials.{power_cmp, monomial_cmp};
+ghost use Rattle.monomial.specs.Monomials.{power_cmp, monomial_cmp, IsProductOf, IsFaultOf};
 ghost use Rattle.monomial.specs.Keys.{power_of};
 
+use crate::keys::{Key, KeyProduct, listed, product_of_keys, same_keys};
+use crate::{MonoFault, product};
 use arrayvec::ArrayVec;
 use std::alloc::{AllocError, Global};
 use std::cmp::Ordering;
 use std::marker::Model;
-
-/// The number of powers that are kept in the value itself.
-const FEW: usize = 8;
-
-/// A power of a variable below 65,536 in one word: the variable times 65,536, and the exponent. Keys are ordered by
-/// their variables, then by their exponents.
-#[derive(Clone, Copy, Default, Eq, Ord, PartialEq, PartialOrd)]
-struct Key {
-    word: u32,
-}
-
-impl Key {
-    // The key of a power, where its variable is below 65,536.
-    fn of(power: (u32, u16)) -> Option<Key>
-        ensures { MatchOption result (65536 ≤ power.0) (λ k. power_of k ≡ power) }
-    {
-        if power.0 < 65536 {
-            Some(Key {
-                word: power.0 * 65536 + u32::from(power.1),
-            })
-        } else {
-            None
-        }
-    }
-
-    fn power(self) -> (u32, u16)
-        ensures value { result ≡ power_of self }
-        ensures bound { result.1 ≤ 65535 }
-    {
-        (self.word / 65536, (self.word % 65536) as u16)
-    }
-}
 
 // How powers are stored.
 #[derive(Drop)]
@@ -136,6 +106,25 @@ impl Powers {
         })
     }
 
+    /// The product. `Degree` comes where an exponent is above 65,535, with the greatest such variable.
+    pub fn times(&self, other: &Powers) -> Result<Powers, MonoFault>
+        ensures { MatchResult result (IsProductOf self.now other.now) (IsFaultOf self.now other.now) }
+    {
+        if let (Stored::Few(first), Stored::Few(second)) = (&self.stored, &other.stored) {
+            match product_of_keys(first.as_slice(), second.as_slice()) {
+                KeyProduct::Made(keys) => {
+                    return Ok(Powers {
+                        stored: Stored::Few(keys),
+                        alloc: self.alloc,
+                    });
+                }
+                KeyProduct::TooHigh(var) => return Err(MonoFault::Degree { var }),
+                KeyProduct::TooMany => {}
+            }
+        }
+        product(self, other)
+    }
+
     /// The lexicographic order, in which powers are ordered by their variables, then by their exponents.
     pub fn order(&self, other: &Powers) -> Ordering
         ensures { result ≡ monomial_cmp self.now other.now }
@@ -160,29 +149,6 @@ impl Powers {
         }
         self.len().cmp(&other.len())
     }
-}
-
-// The powers of some keys.
-fn listed(alloc: Global, keys: &[Key]) -> Result<Vec<(u32, u16)>, AllocError>
-    ensures { IfOk result (λ v. v.items ≡ map power_of keys.now) }
-{
-    let mut powers = Vec::with_capacity(alloc, 2 * FEW)?;
-    for key in keys {
-        powers.push(key.power())?;
-    }
-    Ok(powers)
-}
-
-// The same keys.
-fn same_keys(keys: &[Key]) -> ArrayVec<Key, 8>
-    requires { length keys.now ≤ 8 }
-    ensures { result.items ≡ keys.now }
-{
-    let mut same = ArrayVec::new();
-    for key in keys {
-        same.push(*key);
-    }
-    same
 }
 
 // A power, whose exponent fits its type.

@@ -1,5 +1,5 @@
-use Rattle.std.proofs.Common.{rules, sym, ◌∙◌}
-use Rattle.monomial.proofs.Keys.{keys_order}
+use Rattle.std.proofs.Common.{sym}
+use Rattle.monomial.proofs.KeyOrder.{keys_order}
 use Rattle.monomial.proofs.powers.Powers.order.Goals as goal
 
 pub returns-in-Few-Few : goal.returns-in-Few-Few
