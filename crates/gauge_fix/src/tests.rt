@@ -13,7 +13,8 @@ fn shown(alloc: Global, poly: &Poly) -> Result<String, AllocError> {
     let mut text = String::new(alloc);
     for term in poly.terms() {
         text.push_str(&format!(in alloc; " {}", term.coeff)?)?;
-        for (variable, exponent) in term.monomial.powers() {
+        for place in 0..term.monomial.len() {
+            let (variable, exponent) = term.monomial.power_at(place);
             text.push_str(&format!(in alloc; " x{variable}^{exponent}")?)?;
         }
     }
