@@ -1,6 +1,7 @@
 pub mod Runs
 pub mod NumberRuns
 pub mod Orders
+pub mod Products
 pub mod Digits
 pub mod Alone
 pub mod Fronts

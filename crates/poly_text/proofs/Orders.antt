@@ -4,8 +4,7 @@ use Rattle.std.proofs.Common.{sym, ◌∙◌, ap, subst, arith, drop-cons}
 use Rattle.std.proofs.lemmas.List.{set_split, get_or_default}
 use Rattle.std.proofs.lemmas.Bool.Decides.{nat_tests}
 use Rattle.std.specs.Ordering.{nat_cmp}
-use Rattle.std.specs.declared.cmp.Ordering.{Ordering}
-use Rattle.std.specs.declared.cmp.Ordering.TheVariants.{Less, Equal, Greater}
+use Rattle.std.specs.declared.cmp.Ordering.TheVariants.{Equal, Greater}
 use Rattle.std.specs.FinMap.Entries.{by_order}
 use Rattle.monomial.specs.Monomials.{monomial_times}
 use Rattle.poly_text.specs.Order.{first_factor, product, AreAtMost}
@@ -54,15 +53,6 @@ product_ordered n (p ∷ q ∷ ps) h = by (nat_lt q.0 p.0) refl (λ k. product_o
 pub at_most_more : (n m : ℕ) (ps : List (ℕ × ℕ)) → n ≤ m → AreAtMost n ps → AreAtMost m ps
 at_most_more n m [] l h = tt
 at_most_more n m (p ∷ ps) l h = let a = h.0 in (omega arith, at_most_more n m ps l h.1)
-
-pub times_at_most : (n k : ℕ) (a : ℕ × ℕ) (bs : List (ℕ × ℕ)) → a.1 ≤ k → AreAtMost n bs → AreAtMost (k + n) (monomial_times (a ∷ []) bs)
-times_at_most n k a [] l h = (omega arith, tt)
-times_at_most n k a (b ∷ bs) l h = by (nat_cmp a.0 b.0) (times_at_most n k a bs l h.1)
-  where
-    by : (o : Ordering) → AreAtMost (k + n) (monomial_times (a ∷ []) bs) → AreAtMost (k + n) (by_order o (b ∷ monomial_times (a ∷ []) bs) ((a.0, a.1 + b.1) ∷ bs) (a ∷ b ∷ bs))
-    by Less r = let z = h.0 in (omega arith, r)
-    by Equal r = let z = h.0 in (omega arith, at_most_more n (k + n) bs (omega arith) h.1)
-    by Greater r = let z = h.0 in (omega arith, (omega arith, at_most_more n (k + n) bs (omega arith) h.1))
 
 -- the exponent of an item
 pub exponent_at : (n : ℕ) (ps : List (ℕ × ℕ)) (i : ℕ) (p : ℕ × ℕ) → AreAtMost n ps → i < length ps → p ≡ get_or ps i p → p.1 ≤ n

@@ -7,6 +7,7 @@
 //! and where the exponent is 2 or more, `^` and the exponent. Numbers have no leading zeros.
 #![tactic(auto)]
 
+mod factors;
 mod form;
 mod laws;
 mod numbers;

@@ -1,11 +1,12 @@
 //! The order of terms and factors.
 
-ghost use Rattle.std.specs.Prelude.{◌≡◌, ◌+◌, ◌^◌, ◌∷◌, ◌++◌, [], IfOk, OnOk, None, Some, option_map, map, take, drop};
+ghost use Rattle.std.specs.Prelude.{◌≡◌, ◌++◌, IfOk, OnOk, None, Some, option_map, map, take, drop};
 ghost use Rattle.std.specs.Ordering.{is_lt};
-ghost use Rattle.monomial.specs.Monomials.{monomial_times, monomial_cmp};
-ghost use Rattle.poly_text.specs.Order.{product, AreAtMost, is_below, first_factor, disorder, first_disorder, front, part_text, place};
+ghost use Rattle.monomial.specs.Monomials.{monomial_cmp};
+ghost use Rattle.poly_text.specs.Order.{product, is_below, first_factor, disorder, first_disorder, front, part_text, place};
 ghost use Rattle.poly_text.specs.Raw.{raw};
 
+use crate::factors::product;
 use crate::raw::{RawTerm, push_raw_terms};
 use crate::writer::{push_body, push_sign};
 use std::alloc::{AllocError, Global};
@@ -29,38 +30,6 @@ fn first_factor(powers: &[(u32, u16)]) -> Option<usize>
         at += 1;
     }
     None
-}
-
-/// Multiplies a product by a power.
-fn multiply(powers: &mut Vec<(u32, u128)>, variable: u32, exponent: u16) -> Result<(), AllocError>
-    requires { AreAtMost (2 ^ 127) powers.old.items }
-    ensures product { OnOk result (powers.new.items ≡ monomial_times ((variable, exponent) ∷ []) powers.old.items) }
-    ensures bounded { OnOk result ((n : _) → AreAtMost n powers.old.items → AreAtMost (65535 + n) powers.new.items) }
-{
-    let mut place = 0;
-    'place: while place < powers.len() && variable < powers[place].0 {
-        place += 1;
-    }
-    if place < powers.len() && variable == powers[place].0 {
-        let sum = exponent as u128 + powers[place].1;
-        powers[place] = (variable, sum);
-    } else {
-        powers.insert(place, (variable, exponent as u128))?;
-    }
-    Ok(())
-}
-
-/// The product of factors in any order.
-fn product(alloc: Global, powers: &[(u32, u16)]) -> Result<Vec<(u32, u128)>, AllocError>
-    ensures { IfOk result (λ v. v.items ≡ product powers.now) }
-{
-    let mut product = Vec::new(alloc);
-    let mut at = powers.len();
-    'powers: while at > 0 {
-        at -= 1;
-        multiply(&mut product, powers[at].0, powers[at].1)?;
-    }
-    Ok(product)
 }
 
 fn widened(alloc: Global, powers: &[(u32, u16)]) -> Result<Vec<(u32, u128)>, AllocError>

@@ -143,6 +143,8 @@ Order { at: 2 } | x1-x0*x1+x5
 Order { at: 6 } | x3-x1*x1^65535
 Order { at: 5 } | x2*x1-x2*x0*x1
 Order { at: 8 } | x3^2-x1*x3*x1
+Order { at: 4 } | x3^5-x0*x1*x2*x3*x0*x1*x2*x3*x0*x1*x2*x3*x0*x1*x2*x3*x0*x1*x2*x3
+Order { at: 8 } | x3^6-x0*x1*x2*x3*x0*x1*x2*x3*x0*x1*x2*x3*x0*x1*x2*x3*x0*x1*x2*x3
 Order { at: 8 } | x9+x8-x7+x9"#;
 
 fn answer(alloc: Global, text: &str) -> Result<String, AllocError> {

@@ -1,6 +1,6 @@
 use Rattle.std.proofs.Common.{rules, ◌<◌, ◌^◌, ◌+◌, arith, refl}
 use Rattle.poly_text.proofs.Orders.{exponent_at, multiplied}
-use Rattle.poly_text.proofs.order.multiply.Goals as goal
+use Rattle.poly_text.proofs.factors.multiply.Goals as goal
 
 pub overflow_add-sum : goal.overflow_add-sum
 overflow_add-sum c =

@@ -1,7 +1,7 @@
 use Rattle.std.proofs.Common.{ℕ, ◌≤◌, ◌<◌, ◌+◌, ◌-◌, ◌*◌, ◌^◌, arith, rules, length}
 use Rattle.std.proofs.lemmas.Grind.{common_steps}
 use Rattle.poly_text.proofs.Orders.{at_most_more}
-use Rattle.poly_text.proofs.order.product.Goals as goal
+use Rattle.poly_text.proofs.factors.product_of_few.Goals as goal
 
 below : (n k : ℕ) → n < 2 ^ 64 → 65535 * (n - k) ≤ 2 ^ 127
 below n k h = omega arith

@@ -1,6 +1,6 @@
 use Rattle.std.proofs.Common.{◌≡◌, ◌<◌, ◌≤◌, ◌-◌, ◌*◌, ◌^◌, drop, length}
 use Rattle.poly_text.specs.Order.{product, AreAtMost}
-use Rattle.poly_text.proofs.order.product.Given as goal
+use Rattle.poly_text.proofs.factors.product_of_few.Given as goal
 
 abbrev pub invariant-powers : goal.invariant-powers
 invariant-powers l = record {

@@ -1,6 +1,6 @@
 use Rattle.std.proofs.Common.{◌≡◌, ◌≤◌, ◌-◌, ◌++◌, ◌∷◌, [], take, drop, length, vec_len}
 use Rattle.monomial.specs.Monomials.{monomial_times}
-use Rattle.poly_text.proofs.order.multiply.Given as goal
+use Rattle.poly_text.proofs.factors.multiply.Given as goal
 
 abbrev pub invariant-place : goal.invariant-place
 invariant-place l = record {
