@@ -2,9 +2,11 @@
 //!
 //! The arguments are those of `poly_bench`: ROUNDS TERMS SHORT VARIABLES POWERS [product]. A last word says how monomials
 //! are stored: `listed` (as without it), up to six powers in the value, which is the form of the crate `monomial`; `keyed`, up to eight powers of 32 bits
-//! in the value; `packed`, for at most eight variables, the exponents in one word.
+//! in the value; `mixed`, as `keyed`, and operations in at most eight variables are done on words of eight exponents; `packed`, for at most eight
+//! variables, all exponents in one word throughout.
 mod monomial;
 mod poly;
+mod words;
 
 use monomial::{Keyed, Listed, Monomial, Packed, PACKED};
 use poly::{combine, from_shares, share, times, Fault, Term};
@@ -27,6 +29,7 @@ impl Numbers {
 /// How monomials are stored.
 enum Form {
     Packed,
+    Mixed,
     Keyed,
     Listed,
 }
@@ -74,7 +77,10 @@ fn checksum<M: Monomial>(terms: &[Term<M>]) -> u64 {
     sum
 }
 
-fn run<M: Monomial>(plan: &Plan) -> Result<u64, Fault> {
+/// The polynomial that an operation on `l`, `q`, `a` and `p` makes.
+type Made<M> = fn(&[Term<M>], &[Term<M>], &[Term<M>], &[Term<M>]) -> Result<Vec<Term<M>>, Fault>;
+
+fn run<M: Monomial>(plan: &Plan, combine: Made<M>, times: Made<M>) -> Result<u64, Fault> {
     let mut numbers = Numbers { state: 88_172_645_463_325_252 };
     let q = random_poly::<M>(&mut numbers, plan, plan.terms)?;
     let p = random_poly::<M>(&mut numbers, plan, plan.terms)?;
@@ -82,7 +88,7 @@ fn run<M: Monomial>(plan: &Plan) -> Result<u64, Fault> {
     let a = random_poly::<M>(&mut numbers, plan, plan.short)?;
     let mut sum = 0u64;
     for _ in 0..plan.rounds {
-        let made = if plan.product { times(&l, &q)? } else { combine(&l, &q, &a, &p)? };
+        let made = if plan.product { times(&l, &q, &a, &p)? } else { combine(&l, &q, &a, &p)? };
         sum = sum.wrapping_add(checksum(&made));
     }
     Ok(sum)
@@ -91,10 +97,11 @@ fn run<M: Monomial>(plan: &Plan) -> Result<u64, Fault> {
 fn plan(mut words: Vec<String>) -> Option<Plan> {
     let form = match words.last().map(String::as_str) {
         Some("packed") => Form::Packed,
+        Some("mixed") => Form::Mixed,
         Some("keyed") => Form::Keyed,
         _ => Form::Listed,
     };
-    words.pop_if(|word| ["packed", "keyed", "listed"].contains(&word.as_str()));
+    words.pop_if(|word| ["packed", "mixed", "keyed", "listed"].contains(&word.as_str()));
     let product = words.pop_if(|word| word == "product").is_some();
     let [rounds, terms, short, variables, powers] = words.as_slice() else {
         return None;
@@ -114,13 +121,14 @@ fn plan(mut words: Vec<String>) -> Option<Plan> {
 
 fn main() -> ExitCode {
     let Some(plan) = plan(std::env::args().skip(1).collect()) else {
-        eprintln!("plain_poly: wanted: ROUNDS TERMS SHORT VARIABLES POWERS [product] [packed | keyed | listed], of which VARIABLES is at least 1, and at most 8 where packed");
+        eprintln!("plain_poly: wanted: ROUNDS TERMS SHORT VARIABLES POWERS [product] [packed | mixed | keyed | listed], of which VARIABLES is at least 1, and at most 8 where packed");
         return ExitCode::from(2);
     };
     let answer = match plan.form {
-        Form::Packed => run::<Packed>(&plan),
-        Form::Keyed => run::<Keyed>(&plan),
-        Form::Listed => run::<Listed>(&plan),
+        Form::Packed => run::<Packed>(&plan, combine, |l, q, _, _| times(l, q)),
+        Form::Mixed => run::<Keyed>(&plan, words::combine, |l, q, _, _| words::times(l, q)),
+        Form::Keyed => run::<Keyed>(&plan, combine, |l, q, _, _| times(l, q)),
+        Form::Listed => run::<Listed>(&plan, combine, |l, q, _, _| times(l, q)),
     };
     match answer {
         Ok(sum) => {

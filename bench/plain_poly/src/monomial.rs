@@ -1,4 +1,4 @@
-//! Products of powers of variables, in the order of the greatest variable, in two forms.
+//! Products of powers of variables, in the order of the greatest variable, in three forms.
 use std::cmp::Ordering;
 
 /// A power: a variable and its exponent.
@@ -177,6 +177,19 @@ pub struct Keyed {
 }
 
 impl Keyed {
+    /// The monomial of at most eight powers, from the greatest variable down.
+    #[inline]
+    pub fn of(powers: impl Iterator<Item = Power> + Clone) -> Keyed {
+        let mut keys = [0; KEYS];
+        for (key, (var, exp)) in keys.iter_mut().zip(powers.clone()) {
+            if var > 65535 {
+                return Keyed { keys, listed: Some(powers.collect()) };
+            }
+            *key = var << 16 | u32::from(exp);
+        }
+        Keyed { keys, listed: None }
+    }
+
     #[inline]
     fn power_at(&self, i: usize) -> Option<Power> {
         if let Some(powers) = &self.listed {

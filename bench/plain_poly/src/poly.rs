@@ -18,11 +18,17 @@ pub struct Share<M> {
 /// Why a sum or a product is not made: an exponent is above 65,535, or the absolute values of the contributions to a monomial add up to more than 2^127 - 1.
 pub struct Fault;
 
+/// The product of two coefficients with its sign, or the least number where it is out of range.
+#[inline]
+pub fn kept(x: i128, y: i128, minus: bool) -> i128 {
+    let product = x.checked_mul(y).unwrap_or(i128::MIN);
+    if minus { product.checked_neg().unwrap_or(i128::MIN) } else { product }
+}
+
 /// The share of one contribution.
 #[inline]
 pub fn share<M>(monomial: M, x: i128, y: i128, minus: bool) -> Share<M> {
-    let sum = x.checked_mul(y).unwrap_or(i128::MIN);
-    let sum = if minus { sum.checked_neg().unwrap_or(i128::MIN) } else { sum };
+    let sum = kept(x, y, minus);
     Share { monomial, sum, weight: sum.unsigned_abs() }
 }
 
