@@ -15,3 +15,4 @@ pub mod UnitMonomials
 pub mod Strips
 pub mod Powers
 pub mod Units
+pub mod InOrder

@@ -12,6 +12,7 @@ ghost use Rattle.sparse_poly.specs.Units.{IsStripped, IsOneOrMember, IsUnit};
 ghost use Rattle.sparse_poly.specs.Reads.{degree_in, main_variable, coefficient_of_power};
 
 mod entry;
+mod falling;
 pub mod laws;
 mod merging;
 mod multiplying;
@@ -21,6 +22,7 @@ mod stripping;
 pub use laws::{
     combined_law, primitive_law, product_law, strip_law, subtraction_law, sum_law, unit_law,
 };
+use falling::is_polynomial;
 use monomial::Monomial;
 use multiplying::{added, combined, multiplied, summed};
 use std::alloc::{AllocError, AllocFailed, Global};
@@ -142,6 +144,9 @@ impl Poly {
         ensures answer { MatchResult result (IsResult terms.items) (IsFault terms.items) }
         ensures degree { IfErr result IsNoDegree }
     {
+        if is_polynomial(&terms) {
+            return Ok(Poly { terms });
+        }
         let terms = summed(alloc, terms)?;
         Ok(Poly { terms })
     }
