@@ -1,7 +1,7 @@
-use Rattle.std.proofs.Common.{arith, ◌∙◌, ap, subst, ℕ, ◌≡◌, ◌<◌, ◌≤◌, length, map, ◌++◌, slice_index_or, [], ◌∷◌}
+use Rattle.std.proofs.Common.{rules, arith, ◌∙◌, ap, subst, ℕ, ◌≡◌, ◌<◌, ◌≤◌, length, map, ◌++◌, slice_index_or, [], ◌∷◌}
 use Rattle.std.proofs.lemmas.List.{length-map, map-append}
 use Rattle.monomial.specs.Keys.{power_of}
-use Rattle.monomial.proofs.Steps.{Met-left}
+use Rattle.monomial.proofs.Steps.{Met-left, Met-longer}
 use Rattle.monomial.proofs.keys.product_of_keys.Goals as goal
 
 pub left-preserved : goal.left-preserved
@@ -18,3 +18,15 @@ left-preserved c =
       one_ended = λ _. ended;
       met = rw items (Met-left _ _ _ _ _ inside all small c.left.invariant.met);
     }
+
+pub returns-then-is_full : goal.returns-then-is_full
+returns-then-is_full c =
+    let full : length (map power_of c.both.keys.items) ≡ 8 = length-map c.both.keys.items power_of ∙ search rules in
+    let more = Met-longer _ _ _ _ _ (omega (arith, length-map c.args.first.now power_of, length-map c.args.second.now power_of, c.both-test.true, c.if-j-second.true)) c.both.invariant in
+    omega arith
+
+pub returns-then-is_full-2 : goal.returns-then-is_full-2
+returns-then-is_full-2 c =
+    let full : length (map power_of c.left.keys.items) ≡ 8 = length-map c.left.keys.items power_of ∙ search rules in
+    let more = Met-longer _ _ _ _ _ (omega (arith, length-map c.args.first.now power_of, length-map c.args.second.now power_of, c.left-test.true, c.left.invariant.met.second_in)) c.left.invariant.met in
+    omega arith
