@@ -7,7 +7,7 @@ use itoa::Buffer;
 use sparse_poly::{Poly, Term};
 use std::alloc::AllocError;
 
-pub(crate) fn push_text(text: &[u8], into: &mut Vec<u8>) -> Result<(), AllocError>
+fn push_text(text: &[u8], into: &mut Vec<u8>) -> Result<(), AllocError>
     ensures { OnOk result (into.new.items ≡ into.old.items ++ text.now) }
 {
     into.extend_from_slice(text)?;
@@ -53,11 +53,7 @@ fn push_size(n: u128, into: &mut Vec<u8>) -> Result<(), AllocError>
     Ok(())
 }
 
-pub(crate) fn push_body(
-    n: u128,
-    powers: &[(u32, u16)],
-    into: &mut Vec<u8>,
-) -> Result<(), AllocError>
+fn push_body(n: u128, powers: &[(u32, u16)], into: &mut Vec<u8>) -> Result<(), AllocError>
     ensures { OnOk result (into.new.items ≡ into.old.items ++ body_text n powers.now) }
 {
     match powers {
@@ -70,7 +66,7 @@ pub(crate) fn push_body(
     }
 }
 
-pub(crate) fn push_sign(plus: &[u8], coeff: i128, into: &mut Vec<u8>) -> Result<(), AllocError>
+fn push_sign(plus: &[u8], coeff: i128, into: &mut Vec<u8>) -> Result<(), AllocError>
     ensures { OnOk result (into.new.items ≡ into.old.items ++ sign_text plus.now coeff) }
 {
     if coeff < 0 {
