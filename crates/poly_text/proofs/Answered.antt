@@ -14,8 +14,8 @@ use Rattle.poly_text.specs.Numbers.{IsFactorInRange, AreInRange}
 use Rattle.poly_text.specs.Order.{first_disorder, place, IsOrderFault}
 use Rattle.poly_text.specs.Reading.{uses_below, IsSpelling, IsTextFault}
 use Rattle.poly_text.specs.Fronts.{IsLive}
-use Rattle.poly_text.specs.declared.form.State.TheVariants.{Start}
-use Rattle.poly_text.specs.declared.order.Disorder.{Disorder}
+use Rattle.poly_text.specs.State.{Start}
+use Rattle.poly_text.specs.Disorder.{Disorder}
 use Rattle.poly_text.specs.declared.reader.PolyTextFault.{PolyTextFault}
 use Rattle.poly_text.specs.declared.reader.PolyTextFault.TheVariants.{Syntax, Number, Order, OutOfMemory}
 use Rattle.poly_text.proofs.Alone.{same_text, are_small}

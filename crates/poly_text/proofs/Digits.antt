@@ -49,11 +49,11 @@ reads = decimal_by_steps_wide Reads one more
         let q = r ((48 + n % 10) ∷ rest) in
         (ap (number_from 0) (append_assoc ds d rest) ∙ q.0 ∙ number_from-digit (n / 10) (n % 10) n rest k e, ap after_digits (append_assoc ds d rest) ∙ q.1 ∙ after_digits-digit (n % 10) rest k)
 
-number_from-end : (n : ℕ) (xs : List ℕ) → Lacks is_digit xs → number_from n xs ≡ n
+pub number_from-end : (n : ℕ) (xs : List ℕ) → Lacks is_digit xs → number_from n xs ≡ n
 number_from-end n [] h = refl
 number_from-end n (c ∷ cs) h = ap (λ b. if b then number_from (10 * n + (c - 48)) cs else n) h
 
-after_digits-end : (xs : List ℕ) → Lacks is_digit xs → after_digits xs ≡ xs
+pub after_digits-end : (xs : List ℕ) → Lacks is_digit xs → after_digits xs ≡ xs
 after_digits-end [] h = refl
 after_digits-end (c ∷ cs) h = ap (λ b. if b then after_digits cs else c ∷ cs) h
 

@@ -1,21 +1,21 @@
 -- Each text has an answer other than want of memory.
-use Rattle.std.specs.Prelude.{◌≡◌, ◌≢◌, ℕ, zero, suc, ◌^◌, ◌<◌, ◌≤◌, ◌⊎◌, Bool, true, false, ◌==◌, Option, None, Some, pos, negsuc, unsigned_abs, List, [], ◌∷◌, ◌++◌, length, take, drop, get_or, codes, refl}
-use Rattle.std.proofs.Common.{sym, ◌∙◌, ap, subst, arith, inl, inr, append_assoc}
+use Rattle.std.specs.Prelude.{◌≡◌, ◌≢◌, ℕ, zero, suc, ◌-◌, ◌^◌, ◌<◌, ◌≤◌, ◌⊎◌, Bool, true, false, ◌==◌, Option, None, Some, Result, Ok, Err, pos, negsuc, unsigned_abs, List, [], ◌∷◌, ◌++◌, length, drop, codes, refl}
+use Rattle.std.proofs.Common.{sym, ◌∙◌, ap, arith, inl, inr, append_assoc}
 use Rattle.std.specs.List.{AllByRecursion}
 use Rattle.sparse_poly.specs.declared.Term.{Term}
 use Rattle.poly_text.specs.Text.{more_factors, body_text, poly_text}
-use Rattle.poly_text.specs.Form.{run, ends, next, IsForm, IsSyntaxFault}
+use Rattle.poly_text.specs.Form.{IsForm}
 use Rattle.poly_text.specs.Numbers.{number_from, after_digits, first_out, IsFactorInRange, AreInRange}
 use Rattle.poly_text.specs.Order.{front, first_disorder, place}
 use Rattle.poly_text.specs.Reading.{IsSpelling, IsTextFault}
-use Rattle.poly_text.specs.Fronts.{IsLive, begins_with, after_sign, IsFactorFront, IsFactorsFront, IsBodyFront, IsTermFront}
-use Rattle.poly_text.specs.declared.form.State.{State}
-use Rattle.poly_text.specs.declared.form.State.TheVariants.{Start, Signed, Zero, One, Coefficient, Times, Letter, VariableZero, Variable, Caret, FactorEnd, Exponent, Wrong}
-use Rattle.poly_text.specs.declared.order.Disorder.{Disorder}
+use Rattle.poly_text.specs.Scan.{scan}
+use Rattle.poly_text.specs.Fronts.{IsLive, GoesOn, begins_with, after_sign, IsFactorFront, IsFactorsFront, IsBodyFront, IsTermFront}
+use Rattle.poly_text.specs.State.{Start, Signed, Letter, FactorEnd}
+use Rattle.poly_text.specs.Disorder.{Disorder}
 use Rattle.poly_text.specs.declared.reader.PolyTextFault.{PolyTextFault}
 use Rattle.poly_text.specs.declared.reader.PolyTextFault.TheVariants.{Syntax, Number, Order, OutOfMemory}
-use Rattle.poly_text.proofs.Runs.{fault_at, fault_end, run-append}
-use Rattle.poly_text.proofs.Fronts.{GoesOn, live_behind, coefficient_read, bare_factor, power_factor, star_read, factors_more, factor_shorter, factors_end, bare_body, written_body, zero_text, sign_read, sign_shorter, terms_more, terms_end}
+use Rattle.poly_text.proofs.Scanned.{syntax_answer, number_answer, live_answer}
+use Rattle.poly_text.proofs.Fronts.{live_behind, coefficient_read, bare_factor, power_factor, star_read, factors_more, factor_shorter, factors_end, bare_body, written_body, zero_text, sign_read, sign_shorter, terms_more, terms_end}
 use Rattle.poly_text.proofs.Ordered.{ordered_poly}
 use Rattle.poly_text.proofs.Read.{terms_below}
 
@@ -74,21 +74,18 @@ a_body u text s h = by (begins_with text 120) refl
         let g = some_factors (length behind) u behind behind [] [] s (omega arith) refl tt r.live (omega arith) in
         record { size = number_from 0 text; powers = g.new; rest = g.rest; front = written_body u (number_from 0 text) text behind g.rest g.new h b refl refl g.front }
 
-record ATerm (u : ℕ) (negative : Bool) (text : List ℕ) (old : List Term) : Type 0 where
-  new : List Term
+record ATerm (u : ℕ) (negative : Bool) (text : List ℕ) : Type 0 where
+  term : Term
   rest : List ℕ
-  front : IsTermFront u negative text old new rest
+  front : IsTermFront u negative text term rest
 
-signed_term : (u n : ℕ) (negative : Bool) (text : List ℕ) (old : List Term) (ps : List (ℕ × ℕ)) (rest : List ℕ) → IsBodyFront u text n ps rest → ATerm u negative text old
-signed_term u zero negative text old ps rest f = let k = f.some in absurd (omega arith)
-signed_term u (suc n) false text old ps rest f =
-    let t : Term = record { monomial = ps; coeff = pos (suc n) } in
+signed_term : (u n : ℕ) (negative : Bool) (text : List ℕ) (ps : List (ℕ × ℕ)) (rest : List ℕ) → IsBodyFront u text n ps rest → ATerm u negative text
+signed_term u zero negative text ps rest f = let k = f.some in absurd (omega arith)
+signed_term u (suc n) false text ps rest f =
     record {
-      new = old ++ t ∷ [];
+      term = record { monomial = ps; coeff = pos (suc n) };
       rest = rest;
       front = record {
-        term = t;
-        appended = refl;
         spelled = λ plus. ap (λ l. plus ++ l) f.spelled ∙ sym (append_assoc plus (body_text (suc n) ps) rest);
         in_range = record { apart = λ e. some n e; in_range = f.small; factors = f.in_range };
         follows = f.follows;
@@ -98,14 +95,11 @@ signed_term u (suc n) false text old ps rest f =
   where
     some : (n : ℕ) → pos (suc n) ≡ pos 0 → ⊥
     some n e = let k : suc n ≡ 0 = ap unsigned_abs e in absurd (omega arith)
-signed_term u (suc n) true text old ps rest f =
-    let t : Term = record { monomial = ps; coeff = negsuc n } in
+signed_term u (suc n) true text ps rest f =
     record {
-      new = old ++ t ∷ [];
+      term = record { monomial = ps; coeff = negsuc n };
       rest = rest;
       front = record {
-        term = t;
-        appended = refl;
         spelled = λ plus. ap (λ l. codes "-" ++ l) f.spelled;
         in_range = record { apart = λ e. cc; in_range = f.small; factors = f.in_range };
         follows = f.follows;
@@ -113,8 +107,8 @@ signed_term u (suc n) true text old ps rest f =
       };
     }
 
-a_term : (u : ℕ) (negative : Bool) (text : List ℕ) (old : List Term) → u < 2 ^ 32 → IsLive u Signed text → ATerm u negative text old
-a_term u negative text old s h = let b = a_body u text s h in signed_term u b.size negative text old b.powers b.rest b.front
+a_term : (u : ℕ) (negative : Bool) (text : List ℕ) → u < 2 ^ 32 → IsLive u Signed text → ATerm u negative text
+a_term u negative text s h = let b = a_body u text s h in signed_term u b.size negative text b.powers b.rest b.front
 
 -- ---- terms
 
@@ -138,11 +132,11 @@ some_terms (suc n) u text rest old s l e r g = by (length rest == 0) refl (λ fu
     by : (b : Bool) → (length rest == 0) ≡ b → ((further : List ℕ) (new : List Term) → length further ≤ n → front new ++ further ≡ text → AreInRange u new → GoesOn u new further → SomeTerms u text) → SomeTerms u text
     by true b go = record { terms = old; spelled = terms_end u text rest old e g b; in_range = r }
     by false b go =
-        let t = a_term u (begins_with rest 45) (after_sign rest) old s (sign_read u old rest g b).live in
-        let m = terms_more u text rest t.rest (begins_with rest 45) old t.new e r g b refl t.front in
+        let t = a_term u (begins_with rest 45) (after_sign rest) s (sign_read u old rest g b).live in
+        let m = terms_more u text rest t.rest (begins_with rest 45) old (old ++ t.term ∷ []) t.term e r g b refl t.front refl in
         let less = t.front.shorter in
         let most = sign_shorter rest in
-        go t.rest t.new (omega arith) m.spelled m.in_range m.goes_on
+        go t.rest (old ++ t.term ∷ []) (omega arith) m.spelled m.in_range m.goes_on
 
 terms_of : (u : ℕ) (text : List ℕ) → u < 2 ^ 32 → IsLive u Start text → SomeTerms u text
 terms_of u text s h = by (begins_with text 48) refl
@@ -150,55 +144,6 @@ terms_of u text s h = by (begins_with text 48) refl
     by : (b : Bool) → begins_with text 48 ≡ b → SomeTerms u text
     by true b = record { terms = []; spelled = zero_text u text h b; in_range = tt }
     by false b = some_terms (length text) u text text [] s (omega arith) refl tt (h, b)
-
--- ---- the form
-
-record ASyntaxFault (text : List ℕ) : Type 0 where
-  at : ℕ
-  fault : IsSyntaxFault text at
-
-wrong_or : (s : State) → (s ≡ Wrong) ⊎ (s ≢ Wrong)
-wrong_or Start = inr (λ e. cc)
-wrong_or Signed = inr (λ e. cc)
-wrong_or Zero = inr (λ e. cc)
-wrong_or One = inr (λ e. cc)
-wrong_or Coefficient = inr (λ e. cc)
-wrong_or Times = inr (λ e. cc)
-wrong_or Letter = inr (λ e. cc)
-wrong_or VariableZero = inr (λ e. cc)
-wrong_or Variable = inr (λ e. cc)
-wrong_or Caret = inr (λ e. cc)
-wrong_or FactorEnd = inr (λ e. cc)
-wrong_or Exponent = inr (λ e. cc)
-wrong_or Wrong = inl refl
-
-take_front : (xs ys : List ℕ) → take (length xs) (xs ++ ys) ≡ xs
-take_front [] ys = refl
-take_front (x ∷ xs) ys = ap (λ l. x ∷ l) (take_front xs ys)
-
-get_front : (xs ys : List ℕ) (c : ℕ) → get_or (xs ++ c ∷ ys) (length xs) 0 ≡ c
-get_front [] ys c = refl
-get_front (x ∷ xs) ys c = get_front xs ys c
-
-length_front : (xs ys : List ℕ) (c : ℕ) → length xs < length (xs ++ c ∷ ys)
-length_front [] ys c = omega arith
-length_front (x ∷ xs) ys c = let k = length_front xs ys c in omega arith
-
-form_or : (front rest : List ℕ) (s : State) → run Start front ≡ s → s ≢ Wrong → IsForm (front ++ rest) ⊎ ASyntaxFault (front ++ rest)
-form_or front [] s e live = by (ends s) refl
-  where
-    whole : run Start (front ++ []) ≡ s
-    whole = run-append Start front [] ∙ e
-
-    by : (b : Bool) → ends s ≡ b → IsForm (front ++ []) ⊎ ASyntaxFault (front ++ [])
-    by true q = inl (ap ends whole ∙ q)
-    by false q = inr (record { at = length (front ++ []); fault = fault_end (front ++ []) s whole live q })
-form_or front (c ∷ cs) s e live = elim (wrong_or (next s c)) [
-  | inl w ↦ inr (record { at = length front; fault = fault_at (front ++ c ∷ cs) (length front) s (length_front front cs c) (ap (run Start) (take_front front (c ∷ cs)) ∙ e) live (ap (next s) (get_front front cs c) ∙ w) })
-  | inr l ↦
-      let same : (front ++ c ∷ []) ++ cs ≡ front ++ c ∷ cs = append_assoc front (c ∷ []) cs in
-      subst (λ t. IsForm t ⊎ ASyntaxFault t) same (form_or (front ++ c ∷ []) cs (next s c) (run-append Start front (c ∷ []) ∙ ap (λ r. next r c) e) l)
-]
 
 -- ---- an answer
 
@@ -211,13 +156,12 @@ ordered_or u text terms s form numbers e r = by (first_disorder 0 None terms) re
 
 -- a text is that of a polynomial, or has a fault
 pub some_answer : (u : ℕ) (text : List ℕ) → u < 2 ^ 32 → ((p : List Term) × IsSpelling u text p) ⊎ ((fault : PolyTextFault) × IsTextFault u text fault × (fault ≢ OutOfMemory))
-some_answer u text s = elim (form_or [] text Start refl (λ e. cc)) [
-  | inr f ↦ inr (Syntax f.at, f.fault, λ k. cc)
-  | inl form ↦ by form (first_out u Start text) refl
-]
+some_answer u text s = by (scan u None Start text) refl
   where
-    by : IsForm text → (o : Option ℕ) → first_out u Start text ≡ o → ((p : List Term) × IsSpelling u text p) ⊎ ((fault : PolyTextFault) × IsTextFault u text fault × (fault ≢ OutOfMemory))
-    by form (Some at) q = inr (Number at, record { form = form; first = q }, λ k. cc)
-    by form None q =
-        let t = terms_of u text s (record { form = form; numbers = q }) in
-        ordered_or u text t.terms s form q t.spelled t.in_range
+    by : (r : Result (Option ℕ) ℕ) → scan u None Start text ≡ r → ((p : List Term) × IsSpelling u text p) ⊎ ((fault : PolyTextFault) × IsTextFault u text fault × (fault ≢ OutOfMemory))
+    by (Err left) q = inr (Syntax (length text - left), (syntax_answer u left None text q).1, λ k. cc)
+    by (Ok (Some left)) q = inr (Number (length text - left), (number_answer u left text q).1, λ k. cc)
+    by (Ok None) q =
+        let live = live_answer u text q in
+        let t = terms_of u text s live in
+        ordered_or u text t.terms s live.form live.numbers t.spelled t.in_range

@@ -10,18 +10,12 @@ use Rattle.poly_text.specs.Text.{factor_text, more_factors, body_text, term_text
 use Rattle.poly_text.specs.Form.{is_digit, begin_term, after_term, after_factor, after_variable, next, ends}
 use Rattle.poly_text.specs.Numbers.{number_from, after_digits, starts_number, in_range, is_out, first_out, IsFactorInRange, IsTermInRange, AreInRange}
 use Rattle.poly_text.specs.Order.{front}
-use Rattle.poly_text.specs.Fronts.{IsLive, begins_with, after_sign, IsAfterTerm, IsFactorFront, IsFactorsFront, IsBodyFront, IsTermFront}
-use Rattle.poly_text.specs.declared.form.State.{State}
-use Rattle.poly_text.specs.declared.form.State.TheVariants.{Start, Signed, Zero, One, Coefficient, Times, Letter, VariableZero, Variable, Caret, FactorEnd, Exponent, Wrong}
+use Rattle.poly_text.specs.Fronts.{IsLive, GoesOn, begins_with, after_sign, IsAfterTerm, IsFactorFront, IsFactorsFront, IsBodyFront, IsTermFront}
+use Rattle.poly_text.specs.State.{State, Start, Signed, Zero, One, Coefficient, Times, Letter, VariableZero, Variable, Caret, FactorEnd, Exponent, Wrong}
 use Rattle.poly_text.proofs.Runs.{run-wrong}
-use Rattle.poly_text.proofs.NumberRuns.{number_from-le}
+use Rattle.poly_text.proofs.NumberRuns.{number_from-le, rest_step}
 use Rattle.poly_text.proofs.Digits.{below_of, Small, Lacks}
 use Rattle.poly_text.proofs.Alone.{is_equal, body_written, same_tail}
-
--- what may stand behind some terms: at the start the first term, but not the text `0`, and else nothing or a further term
-abbrev pub GoesOn : ℕ → List Term → List ℕ → Type 0
-GoesOn u [] rest = IsLive u Start rest × (begins_with rest 48 ≡ false)
-GoesOn u (t ∷ ts) rest = IsAfterTerm u rest
 
 -- ---- a byte and what follows it
 
@@ -74,7 +68,7 @@ keeps_variable = record { next_digit = λ c h. ap (λ b. if b then Variable else
 pub keeps_exponent : Keeps Exponent
 keeps_exponent = record { next_digit = λ c h. ap (λ b. if b then Exponent else after_factor c) h; starts = refl }
 
-not_out : (u : ℕ) (s : State) (c : ℕ) (cs : List ℕ) → starts_number s ≡ false → is_out u s (c ∷ cs) ≡ false
+pub not_out : (u : ℕ) (s : State) (c : ℕ) (cs : List ℕ) → starts_number s ≡ false → is_out u s (c ∷ cs) ≡ false
 not_out u s c cs h = ap (λ b. b && is_digit c && not (in_range u s (number_from 0 (c ∷ cs)))) h
 
 pub past_digits : (u : ℕ) (s : State) (cs : List ℕ) → Keeps s → IsLive u s cs → IsLive u s (after_digits cs)
@@ -163,13 +157,13 @@ pub alike : (u : ℕ) (f : ℕ → Bool) (s t : State) (xs : List ℕ) → Alike
 alike u f s t [] a l h = record { form = sym a.same_end ∙ h.form; numbers = refl }
 alike u f s t (c ∷ cs) a l h = step_back u t c cs (subst (λ r. IsLive u r cs) (a.same_next c l) (step u s c cs h).live) (not_out u t c cs a.starts)
 
-variable_zero : Alike is_digit Variable VariableZero
+pub variable_zero : Alike is_digit Variable VariableZero
 variable_zero = record { same_next = λ c e. ap (λ b. if b then Variable else after_variable c) e; same_end = refl; starts = refl }
 
-exponent_end : Alike is_digit Exponent FactorEnd
+pub exponent_end : Alike is_digit Exponent FactorEnd
 exponent_end = record { same_next = λ c e. ap (λ b. if b then Exponent else after_factor c) e; same_end = refl; starts = refl }
 
-coefficient_end : Alike is_digit Coefficient FactorEnd
+pub coefficient_end : Alike is_digit Coefficient FactorEnd
 coefficient_end = record { same_next = λ c e. ap (λ b. if b then Coefficient else after_factor c) e; same_end = refl; starts = refl }
 
 zero_end : Alike (λ c. c == 94) VariableZero FactorEnd
@@ -225,9 +219,6 @@ zero_numbered cs h =
     let z = zero_number cs h in
     ap (λ l. l ++ cs) (sym (decimal_digit 0 (omega arith))) ∙ ap (λ n. decimal n ++ cs) (sym z.0) ∙ ap (λ l. decimal (number_from 0 (48 ∷ cs)) ++ l) (sym z.1)
 
-digit_rest : (c : ℕ) (cs : List ℕ) → is_digit c ≡ true → after_digits cs ≡ after_digits (c ∷ cs)
-digit_rest c cs d = ap (λ b. if b then after_digits cs else c ∷ cs) (sym d)
-
 apart_of : (c k : ℕ) → (c == k) ≡ false → c ≢ k
 apart_of c k h = grind (arith, nat_tests)
 
@@ -257,7 +248,7 @@ variable_read u (c ∷ cs) v h = by (c == 48) refl (step u Letter c cs h).live
         record {
           small = small;
           numbered = n.1;
-          live = subst (IsLive u VariableZero) (digit_rest c cs t.0) (alike u is_digit Variable VariableZero (after_digits cs) variable_zero (after_digits-lacks cs) (past_digits u Variable cs keeps_variable t.1));
+          live = subst (IsLive u VariableZero) (sym (rest_step (c ∷ cs) t.0)) (alike u is_digit Variable VariableZero (after_digits cs) variable_zero (after_digits-lacks cs) (past_digits u Variable cs keeps_variable t.1));
         }
 
 pub record ExponentRead (u : ℕ) (text : List ℕ) : Type 0 where
@@ -290,7 +281,7 @@ exponent_read u (c ∷ cs) h = by (c == 48) refl (step u Caret c cs h).live
           low = k.0;
           high = k.1;
           numbered = n.1;
-          live = subst (IsLive u FactorEnd) (digit_rest c cs t.0) (alike u is_digit Exponent FactorEnd (after_digits cs) exponent_end (after_digits-lacks cs) (past_digits u Exponent cs keeps_exponent t.1));
+          live = subst (IsLive u FactorEnd) (sym (rest_step (c ∷ cs) t.0)) (alike u is_digit Exponent FactorEnd (after_digits cs) exponent_end (after_digits-lacks cs) (past_digits u Exponent cs keeps_exponent t.1));
         }
 
 -- ---- bytes at the front
@@ -306,7 +297,7 @@ not_begun k (c ∷ cs) h = h
 pub live_behind : (u : ℕ) (s : State) (k : ℕ) (xs : List ℕ) → begins_with xs k ≡ true → IsLive u s xs → IsLive u (next s k) (drop 1 xs)
 live_behind u s k xs h l = (step u s k (drop 1 xs) (subst (IsLive u s) (begun k xs h) l)).live
 
-length_behind : (k : ℕ) (xs : List ℕ) → begins_with xs k ≡ true → length xs ≡ suc (length (drop 1 xs))
+pub length_behind : (k : ℕ) (xs : List ℕ) → begins_with xs k ≡ true → length xs ≡ suc (length (drop 1 xs))
 length_behind k xs h = ap length (begun k xs h)
 
 -- ---- a factor
@@ -380,7 +371,7 @@ all_more : (u : ℕ) (ps : List (ℕ × ℕ)) (p : ℕ × ℕ) → AllByRecursio
 all_more u [] p h k = (k, tt)
 all_more u (q ∷ qs) p h k = (h.0, all_more u qs p h.1 k)
 
-more_more : (ps : List (ℕ × ℕ)) (p : ℕ × ℕ) (xs : List ℕ) → more_factors (ps ++ p ∷ []) ++ xs ≡ more_factors ps ++ (42 ∷ (factor_text p ++ xs))
+pub more_more : (ps : List (ℕ × ℕ)) (p : ℕ × ℕ) (xs : List ℕ) → more_factors (ps ++ p ∷ []) ++ xs ≡ more_factors ps ++ (42 ∷ (factor_text p ++ xs))
 more_more [] p xs = ap (λ l. 42 ∷ (l ++ xs)) (append-nil (factor_text p))
 more_more (q ∷ qs) p xs =
     append_assoc (codes "*" ++ factor_text q) (more_factors (qs ++ p ∷ [])) xs
@@ -406,6 +397,12 @@ factors_more u start text rest further powers new p e r l s b f n =
       live = f.live;
       shorter = omega (arith, a);
     }
+
+-- without two bytes
+pub drop_two : (xs : List ℕ) → drop 1 (drop 1 xs) ≡ drop 2 xs
+drop_two [] = refl
+drop_two (c ∷ []) = refl
+drop_two (c ∷ d ∷ cs) = refl
 
 pub factor_shorter : (u : ℕ) (rest further : List ℕ) (p : ℕ × ℕ) → IsLive u FactorEnd rest → begins_with rest 42 ≡ true → IsFactorFront u (drop 2 rest) p further → length further < length rest
 factor_shorter u rest further p l b f = let a = ap length (star_read u rest l b).spelled in let z = f.shorter in omega (arith, a)
@@ -482,7 +479,7 @@ long_coefficient u c cs d n h l o =
     let small : number_from 0 (c ∷ cs) ≤ max_coeff = coefficient_small u c cs d h in
     let t = number_text c cs d n (omega arith) in
     let le = after_digits-le cs in
-    let e = digit_rest c cs d in
+    let e = sym (rest_step (c ∷ cs) d) in
     record {
       some = t.0;
       small = small;
@@ -631,14 +628,14 @@ pub record TermsMore (u : ℕ) (text : List ℕ) (new : List Term) (rest : List 
   pub in_range : AreInRange u new
   pub goes_on : GoesOn u new rest
 
-pub terms_more : (u : ℕ) (text rest further : List ℕ) (negative : Bool) (old new : List Term) → front old ++ rest ≡ text → AreInRange u old → GoesOn u old rest → (length rest == 0) ≡ false → negative ≡ begins_with rest 45 → IsTermFront u negative (after_sign rest) old new further → TermsMore u text new further
-terms_more u text rest further negative old new e r g n b f =
+pub terms_more : (u : ℕ) (text rest further : List ℕ) (negative : Bool) (old new : List Term) (t : Term) → front old ++ rest ≡ text → AreInRange u old → GoesOn u old rest → (length rest == 0) ≡ false → negative ≡ begins_with rest 45 → IsTermFront u negative (after_sign rest) t further → new ≡ old ++ t ∷ [] → TermsMore u text new further
+terms_more u text rest further negative old new t e r g n b f appended =
     let s = sign_read u old rest g n in
-    let k : rest ≡ term_text (plus_of old) f.term ++ further = s.spelled ∙ ap (λ v. (if v then codes "-" else plus_of old) ++ after_sign rest) (sym b) ∙ f.spelled (plus_of old) in
+    let k : rest ≡ term_text (plus_of old) t ++ further = s.spelled ∙ ap (λ v. (if v then codes "-" else plus_of old) ++ after_sign rest) (sym b) ∙ f.spelled (plus_of old) in
     record {
-      spelled = ap (λ ts. front ts ++ further) f.appended ∙ front_more old f.term further ∙ ap (λ l. front old ++ l) (sym k) ∙ e;
-      in_range = subst (AreInRange u) (sym f.appended) (terms_in_range u old f.term r f.in_range);
-      goes_on = subst (λ ts. GoesOn u ts further) (sym f.appended) (goes_on_more u old f.term further f.follows);
+      spelled = ap (λ ts. front ts ++ further) appended ∙ front_more old t further ∙ ap (λ l. front old ++ l) (sym k) ∙ e;
+      in_range = subst (AreInRange u) (sym appended) (terms_in_range u old t r f.in_range);
+      goes_on = subst (λ ts. GoesOn u ts further) (sym appended) (goes_on_more u old t further f.follows);
     }
 
 pub sign_shorter : (rest : List ℕ) → length (after_sign rest) ≤ length rest
@@ -653,7 +650,3 @@ pub terms_end : (u : ℕ) (text rest : List ℕ) (ts : List Term) → front ts +
 terms_end u text (c ∷ cs) ts e g n = let k = is_equal (suc (length cs)) 0 n in absurd (omega arith)
 terms_end u text [] [] e g n = let k : false ≡ true = g.0.form in absurd (cc)
 terms_end u text [] (t ∷ ts) e g n = sym e ∙ append-nil (front (t ∷ ts))
-
--- what is read is the number where that is in range
-pub exact_number : (r k : ℕ) → (r ≤ max_coeff → k ≡ r) → (max_coeff < r → max_coeff < k) → k ≤ max_coeff → r ≡ k
-exact_number r k exact great h = grind arith

@@ -12,8 +12,7 @@ use Rattle.sparse_poly.proofs.Same.{all_through}
 use Rattle.poly_text.proofs.Digits.{below_test, below_of}
 use Rattle.poly_text.specs.Numbers.{IsFactorInRange, AreInRange}
 use Rattle.poly_text.specs.Order.{product, is_below, first_factor, disorder, or_next, first_disorder}
-use Rattle.poly_text.specs.declared.order.Disorder.{Disorder}
-use Rattle.poly_text.specs.declared.order.Disorder.TheVariants.{TermAt, FactorAt}
+use Rattle.poly_text.specs.Disorder.{Disorder, TermAt, FactorAt}
 use Rattle.poly_text.proofs.Orders.{product_ordered}
 
 -- ---- a polynomial is in order

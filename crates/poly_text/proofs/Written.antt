@@ -10,8 +10,7 @@ use Rattle.poly_text.specs.Text.{more_factors, body_text, sign_text, more_terms,
 use Rattle.poly_text.specs.Form.{is_digit, begin_term, after_term, after_factor, after_variable, next}
 use Rattle.poly_text.specs.Numbers.{number_from, after_digits, starts_number, in_range, is_out, IsFactorInRange, IsTermInRange, AreInRange}
 use Rattle.poly_text.specs.Fronts.{IsLive, IsAfterTerm}
-use Rattle.poly_text.specs.declared.form.State.{State}
-use Rattle.poly_text.specs.declared.form.State.TheVariants.{Start, Signed, Zero, One, Coefficient, Times, Letter, VariableZero, Variable, Caret, FactorEnd, Exponent, Wrong}
+use Rattle.poly_text.specs.State.{State, Start, Signed, Zero, One, Coefficient, Times, Letter, VariableZero, Variable, Caret, FactorEnd, Exponent, Wrong}
 use Rattle.poly_text.proofs.Digits.{below_test, Small, Lacks, begins, read_number, read_rest}
 use Rattle.poly_text.proofs.Alone.{goes_on, continues, no_digit, is_equal, power_text, factor_shown, more_shown, factors_lack, is_written, body_written, body_bare, same_tail, some_abs}
 use Rattle.poly_text.proofs.Fronts.{step, step_back, not_wrong, Keeps, keeps_coefficient, keeps_variable, keeps_exponent, before_digits, Alike, alike, after_end}

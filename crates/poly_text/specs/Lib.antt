@@ -1,7 +1,11 @@
+pub mod State
+pub mod Disorder
 pub mod Text
 pub mod Form
 pub mod Numbers
+pub mod Scan
 pub mod Fronts
 pub mod Raw
 pub mod Order
+pub mod Places
 pub mod Reading

@@ -6,8 +6,7 @@ use Rattle.monomial.specs.Monomials.{monomial_times, monomial_cmp}
 use Rattle.sparse_poly.specs.declared.Term.{Term}
 use Rattle.poly_text.specs.Text.{term_text, poly_text}
 use Rattle.poly_text.specs.Numbers.{AreInRange}
-use Rattle.poly_text.specs.declared.order.Disorder.{Disorder}
-use Rattle.poly_text.specs.declared.order.Disorder.TheVariants.{TermAt, FactorAt}
+use Rattle.poly_text.specs.Disorder.{Disorder, TermAt, FactorAt}
 
 -- the product of factors in any order: the exponents of a variable add up, without bound
 abbrev pub product : List (ℕ × ℕ) → List (ℕ × ℕ)

@@ -7,7 +7,7 @@ use Rattle.poly_text.specs.Text.{poly_text}
 use Rattle.poly_text.specs.Form.{IsForm, IsSyntaxFault}
 use Rattle.poly_text.specs.Numbers.{first_out}
 use Rattle.poly_text.specs.Order.{IsOrderFault}
-use Rattle.poly_text.specs.declared.form.State.TheVariants.{Start}
+use Rattle.poly_text.specs.State.{Start}
 use Rattle.poly_text.specs.declared.reader.PolyTextFault.{PolyTextFault}
 use Rattle.poly_text.specs.declared.reader.PolyTextFault.TheVariants.{Syntax, Number, Order, OutOfMemory}
 

@@ -1,167 +1,97 @@
-//! The form of a polynomial's text.
+//! The bytes at the front of a text, and why reading ends early.
 
-ghost use Rattle.std.specs.Prelude.{◌≡◌, ◌↔◌, IsTrue, if◌then◌else◌, MatchOption};
-ghost use Rattle.poly_text.specs.Form.{is_digit, begin_term, after_term, after_factor, after_variable, next, ends, IsForm, IsSyntaxFault};
+ghost use Rattle.std.specs.Prelude.{◌≡◌, ◌≤◌, length, drop};
+ghost use Rattle.poly_text.specs.Form.{is_digit};
+ghost use Rattle.poly_text.specs.Scan.{first_of};
+ghost use Rattle.poly_text.specs.Fronts.{begins_with, begins_with_digit, ends_term, after_sign};
 
-/// What stands before a place of a text.
-#[derive(Clone, Copy, Debug, PartialEq)]
-pub(crate) enum State {
-    /// Nothing.
-    Start,
-    /// A sign.
-    Signed,
-    /// The text `0`.
-    Zero,
-    /// The coefficient 1, or the first digit of a longer one.
-    One,
-    /// The digits of another coefficient.
-    Coefficient,
-    /// A `*`.
-    Times,
-    /// The `x` of a factor.
-    Letter,
-    /// The variable 0.
-    VariableZero,
-    /// The digits of another variable.
-    Variable,
-    /// A `^`.
-    Caret,
-    /// A factor whose exponent is 0.
-    FactorEnd,
-    /// The digits of another exponent.
-    Exponent,
-    /// No text of the form begins so.
-    Wrong,
+use std::alloc::AllocError;
+
+/// Why reading ends early. A place is told by the number of bytes that are left there.
+#[derive(Clone, Copy, Drop)]
+pub(crate) enum Stop {
+    /// No text of the form goes on with this byte, or the text only ended early.
+    Syntax { left: usize },
+    /// An allocation failed.
+    OutOfMemory,
 }
 
-pub(crate) fn is_digit(byte: u8) -> bool
+impl From<AllocError> for Stop {
+    ghost use Rattle.std.specs.Prelude.{◌≡◌};
+    ghost use Rattle.poly_text.specs.declared.form.Stop.TheVariants.{OutOfMemory};
+
+    ghost from_gives = { λ _ e. e ≡ OutOfMemory };
+
+    fn from(_: AllocError) -> Stop {
+        Stop::OutOfMemory
+    }
+}
+
+fn is_digit(byte: u8) -> bool
     ensures { result ≡ is_digit byte }
 {
     48 <= byte && byte <= 57
 }
 
-fn begin_term(byte: u8) -> State
-    ensures { result ≡ begin_term byte }
+/// Whether the text begins with this byte.
+pub(crate) fn begins_with(text: &[u8], byte: u8) -> bool
+    ensures { result ≡ begins_with text.now byte }
 {
-    if byte == b'1' {
-        State::One
-    } else if b'2' <= byte && byte <= b'9' {
-        State::Coefficient
-    } else if byte == b'x' {
-        State::Letter
-    } else {
-        State::Wrong
+    match text {
+        [] => false,
+        [first, ..] => *first == byte,
     }
 }
 
-fn after_term(byte: u8) -> State
-    ensures { result ≡ after_term byte }
+/// Whether the text begins with a digit.
+pub(crate) fn begins_with_digit(text: &[u8]) -> bool
+    ensures { result ≡ begins_with_digit text.now }
 {
-    if byte == b'+' {
-        State::Signed
-    } else if byte == b'-' {
-        State::Signed
-    } else {
-        State::Wrong
+    match text {
+        [] => false,
+        [first, ..] => is_digit(*first),
     }
 }
 
-fn after_factor(byte: u8) -> State
-    ensures { result ≡ after_factor byte }
+/// Whether a term may end here: the text is empty, or begins with a sign.
+pub(crate) fn ends_term(text: &[u8]) -> bool
+    ensures { result ≡ ends_term text.now }
 {
-    if byte == b'*' {
-        State::Times
-    } else {
-        after_term(byte)
+    match text {
+        [] => true,
+        [first, ..] => *first == b'+' || *first == b'-',
     }
 }
 
-fn after_variable(byte: u8) -> State
-    ensures { result ≡ after_variable byte }
+/// The text without its first bytes.
+pub(crate) fn behind(text: &[u8], count: usize) -> &[u8]
+    requires { count ≤ length text.now }
+    ensures { result.now ≡ drop count text.now }
 {
-    if byte == b'^' {
-        State::Caret
-    } else {
-        after_factor(byte)
-    }
+    &text[count..]
 }
 
-fn digits_or(byte: u8, digits: State, others: State) -> State
-    ensures { result ≡ (if is_digit byte then digits else others) }
+/// What follows the sign at the front of a text, if there is one.
+pub(crate) fn after_sign(text: &[u8]) -> &[u8]
+    ensures { result.now ≡ after_sign text.now }
 {
-    if is_digit(byte) { digits } else { others }
-}
-
-/// What stands before the next byte.
-pub(crate) fn next(state: State, byte: u8) -> State
-    ensures { result ≡ next state byte }
-{
-    match state {
-        State::Start => match byte {
-            b'-' => State::Signed,
-            b'0' => State::Zero,
-            _ => begin_term(byte),
-        },
-        State::Signed => begin_term(byte),
-        State::Zero | State::Wrong => State::Wrong,
-        State::One => digits_or(byte, State::Coefficient, after_term(byte)),
-        State::Coefficient => digits_or(byte, State::Coefficient, after_factor(byte)),
-        State::Times => match byte {
-            b'x' => State::Letter,
-            _ => State::Wrong,
-        },
-        State::Letter => match byte {
-            b'0' => State::VariableZero,
-            _ => digits_or(byte, State::Variable, State::Wrong),
-        },
-        State::VariableZero => after_variable(byte),
-        State::Variable => digits_or(byte, State::Variable, after_variable(byte)),
-        State::Caret => match byte {
-            b'0' => State::FactorEnd,
-            _ => digits_or(byte, State::Exponent, State::Wrong),
-        },
-        State::FactorEnd => after_factor(byte),
-        State::Exponent => digits_or(byte, State::Exponent, after_factor(byte)),
-    }
-}
-
-fn is_wrong(state: State) -> bool
-    ensures { IsTrue result ↔ (state ≡ State.Wrong) }
-{
-    match state {
-        State::Wrong => true,
-        _ => false,
-    }
-}
-
-/// Whether a text may end here.
-pub(crate) fn ends(state: State) -> bool
-    ensures { result ≡ ends state }
-{
-    match state {
-        State::Start | State::Signed | State::Times | State::Letter | State::Caret | State::Wrong =>
-            false,
-        State::Zero
-        | State::One
-        | State::Coefficient
-        | State::VariableZero
-        | State::Variable
-        | State::FactorEnd
-        | State::Exponent => true,
-    }
-}
-
-/// Where the text leaves the form, if it does.
-pub(crate) fn syntax_fault(text: &[u8]) -> Option<usize>
-    ensures { MatchOption result (IsForm text.now) (IsSyntaxFault text.now) }
-{
-    let mut state = State::Start;
-    'bytes: for (at, byte) in text.iter().enumerate() {
-        let following = next(state, *byte);
-        if is_wrong(following) {
-            return Some(at);
+    match text {
+        [] => text,
+        [first, rest @ ..] => {
+            if *first == b'+' || *first == b'-' {
+                rest
+            } else {
+                text
+            }
         }
-        state = following;
     }
-    if ends(state) { None } else { Some(text.len()) }
+}
+
+/// Keeps the first place.
+pub(crate) fn note(place: &mut Option<usize>, left: usize)
+    ensures { place.new ≡ first_of place.old left }
+{
+    if place.is_none() {
+        *place = Some(left);
+    }
 }

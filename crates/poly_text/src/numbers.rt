@@ -1,69 +1,113 @@
 //! The numbers of a polynomial's text.
 
-ghost use Rattle.std.specs.Prelude.{◌≡◌, ◌<◌, ◌≤◌, length};
+ghost use Rattle.std.specs.Prelude.{◌≡◌, ◌<◌, ◌≤◌, ◌+◌, ◌-◌, ◌*◌, ◌⊎◌, ℕ, true, false, MatchResult};
 ghost use Rattle.sparse_poly.specs.Contributions.{max_coeff};
-ghost use Rattle.poly_text.specs.Numbers.{number_from, starts_number, in_range, is_out, first_out};
-ghost use Rattle.poly_text.specs.declared.form.State.TheVariants.{Start};
+ghost use Rattle.poly_text.specs.Form.{is_digit};
+ghost use Rattle.poly_text.specs.State.{Letter, VariableZero, Caret, FactorEnd, Signed};
+ghost use Rattle.poly_text.specs.Numbers.{number_from, after_digits};
+ghost use Rattle.poly_text.specs.Scan.{scan, IsStop};
+ghost use Rattle.poly_text.specs.Fronts.{begins_with, IsNumberFront, IsNoNumber, IsNumberRead, IsCoefficientRead};
 
-use crate::form::{State, is_digit, next};
+use crate::form::{Stop, begins_with, begins_with_digit, behind, note};
 
 /// The greatest absolute value of a coefficient.
 const MAX_COEFF: u128 = i128::MAX as u128;
 
-/// The number at the front of a text, or a greater one than any in range where that is out of range.
-pub(crate) fn number(text: &[u8]) -> u128
-    ensures exact { result ≤ max_coeff → number_from 0 text.now ≡ result }
-    ensures great { max_coeff < result → max_coeff < number_from 0 text.now }
+/// A number with one digit more, or another great one where either is greater than any in range.
+fn with_digit(number: u128, digit: u8) -> u128
+    requires { is_digit digit ≡ true }
+    ensures exact { result ≤ max_coeff → (number ≤ max_coeff) × (result ≡ 10 * number + (digit - 48)) }
+    ensures great { max_coeff < result → (max_coeff < number) ⊎ ((number ≤ max_coeff) × (max_coeff < 10 * number + (digit - 48))) }
 {
-    let mut number = 0u128;
-    'digits: for byte in text {
-        if !is_digit(*byte) || number > MAX_COEFF {
-            return number;
-        }
-        number = number
-            .saturating_mul(10)
-            .saturating_add((*byte - b'0') as u128);
+    if number > MAX_COEFF {
+        return number;
     }
     number
+        .saturating_mul(10)
+        .saturating_add((digit - b'0') as u128)
 }
 
-fn starts_number(state: State) -> bool
-    ensures { result ≡ starts_number state }
+/// The digits at the front of a text as a number, or as a greater one than any in range where that is
+/// out of range, and what follows them.
+fn split_digits(text: &[u8]) -> (u128, &[u8])
+    ensures exact { result.0 ≤ max_coeff → number_from 0 text.now ≡ result.0 }
+    ensures great { max_coeff < result.0 → max_coeff < number_from 0 text.now }
+    ensures rest { result.1.now ≡ after_digits text.now }
 {
-    match state {
-        State::Start | State::Signed | State::Letter | State::Caret => true,
-        _ => false,
+    let mut number = 0u128;
+    let mut rest = text;
+    'digits: while begins_with_digit(rest) {
+        number = with_digit(number, rest[0]);
+        rest = behind(rest, 1);
+    }
+    (number, rest)
+}
+
+/// The number at the front of a text, which has no leading zeros, and what follows it.
+fn split_number(text: &[u8]) -> Result<(u128, &[u8]), Stop>
+    ensures { MatchResult result (λ r. IsNumberFront text.now r.0 r.1.now) (IsNoNumber text.now) }
+{
+    if !begins_with_digit(text) {
+        return Err(Stop::Syntax { left: text.len() });
+    }
+    if begins_with(text, b'0') && begins_with_digit(behind(text, 1)) {
+        return Err(Stop::Syntax {
+            left: text.len() - 1,
+        });
+    }
+    Ok(split_digits(text))
+}
+
+/// The variable at the front of a text, or 0 where it is out of range, and what follows it.
+pub(crate) fn split_variable<'a>(
+    unknowns: u32,
+    text: &'a [u8],
+    fault: &mut Option<usize>,
+) -> Result<(u32, &'a [u8]), Stop>
+    ensures { MatchResult result (λ r. IsNumberRead unknowns Letter VariableZero fault.old fault.new text.now r.0 r.1.now) (IsStop (scan unknowns fault.old Letter text.now)) }
+{
+    let (number, rest) = split_number(text)?;
+    if number < unknowns as u128 {
+        Ok((number as u32, rest))
+    } else {
+        note(fault, text.len());
+        Ok((0, rest))
     }
 }
 
-fn in_range(unknowns: u32, state: State, number: u128) -> bool
-    ensures { result ≡ in_range unknowns state number }
+/// The exponent at the front of a text, or 0 where it is out of range, and what follows it.
+pub(crate) fn split_exponent<'a>(
+    text: &'a [u8],
+    fault: &mut Option<usize>,
+) -> Result<(u16, &'a [u8]), Stop>
+    ensures { (unknowns : ℕ) → MatchResult result (λ r. IsNumberRead unknowns Caret FactorEnd fault.old fault.new text.now r.0 r.1.now) (IsStop (scan unknowns fault.old Caret text.now)) }
 {
-    match state {
-        State::Letter => number < unknowns as u128,
-        State::Caret => 2 <= number && number <= 65535,
-        _ => number <= MAX_COEFF,
+    let (number, rest) = split_number(text)?;
+    if 2 <= number && number <= 65535 {
+        Ok((number as u16, rest))
+    } else {
+        note(fault, text.len());
+        Ok((0, rest))
     }
 }
 
-/// Whether a number that is out of range starts at the front of a text.
-fn is_out(unknowns: u32, state: State, text: &[u8]) -> bool
-    requires { 0 < length text.now }
-    ensures { result ≡ is_out unknowns state text.now }
+/// The absolute value of the coefficient at the front of a text, or the greatest where it is out of
+/// range, and what follows it.
+pub(crate) fn split_coefficient<'a>(
+    text: &'a [u8],
+    fault: &mut Option<usize>,
+) -> Result<(u128, &'a [u8]), Stop>
+    requires { begins_with text.now 120 ≡ false }
+    ensures { (unknowns : ℕ) → MatchResult result (λ r. IsCoefficientRead unknowns fault.old fault.new text.now r.0 r.1.now) (IsStop (scan unknowns fault.old Signed text.now)) }
 {
-    starts_number(state) && is_digit(text[0]) && !in_range(unknowns, state, number(text))
-}
-
-/// The start of the first number that is out of range, if there is one.
-pub(crate) fn number_fault(unknowns: u32, text: &[u8]) -> Option<usize>
-    ensures { result ≡ first_out unknowns Start text.now }
-{
-    let mut state = State::Start;
-    'bytes: for (at, byte) in text.iter().enumerate() {
-        if is_out(unknowns, state, &text[at..]) {
-            return Some(at);
-        }
-        state = next(state, *byte);
+    if !begins_with_digit(text) || begins_with(text, b'0') {
+        return Err(Stop::Syntax { left: text.len() });
     }
-    None
+    let (number, rest) = split_digits(text);
+    if number <= MAX_COEFF {
+        Ok((number, rest))
+    } else {
+        note(fault, text.len());
+        Ok((MAX_COEFF, rest))
+    }
 }

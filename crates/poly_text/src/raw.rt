@@ -1,16 +1,18 @@
 //! The terms of a text, with terms and factors in any order.
 
-ghost use Rattle.std.specs.Prelude.{◌≡◌, ◌≤◌, [], ◌++◌, OnOk, IfOk, map, length, drop};
+ghost use Rattle.std.specs.Prelude.{◌≡◌, ◌≤◌, ◌<◌, [], ◌++◌, ◌∷◌, ℕ, List, true, None, Ok, OnOk, IfOk, MatchResult, map, length, drop, if◌then◌else◌};
 ghost use Rattle.std.specs.List.{AllByRecursion};
-ghost use Rattle.poly_text.specs.Text.{term_text, more_terms, poly_text};
+ghost use Rattle.sparse_poly.specs.Contributions.{max_coeff};
 ghost use Rattle.poly_text.specs.Raw.{raw};
-ghost use Rattle.poly_text.specs.Numbers.{after_digits, IsFactorInRange, AreInRange};
-ghost use Rattle.poly_text.specs.Fronts.{begins_with, after_sign, IsLive, IsFactorFront, IsFactorsFront, IsBodyFront, IsTermFront};
-ghost use Rattle.poly_text.specs.declared.form.State.{State};
+ghost use Rattle.poly_text.specs.State.{Start, Signed, Times, Letter, FactorEnd};
+ghost use Rattle.poly_text.specs.Numbers.{IsFactorInRange};
+ghost use Rattle.poly_text.specs.Scan.{first_of, scan, scan_end, scan_terms, IsStop};
+ghost use Rattle.poly_text.specs.Fronts.{IsLive, IsFactorFront, IsFactorsFront, IsBodyFront, IsTermFront, begins_with, ends_term};
+ghost use Rattle.poly_text.specs.Places.{is_falling, last_monomial, next_place, IsFactorPlace, IsAtSign, IsReadTo, IsReading};
 
-use crate::form::is_digit;
-use crate::numbers::number;
-use crate::writer::{push_body, push_sign, push_text};
+use crate::form::{Stop, after_sign, begins_with, behind, ends_term, note};
+use crate::numbers::{split_coefficient, split_exponent, split_variable};
+use crate::order::{is_falling, is_term_below, last_powers};
 use std::alloc::{AllocError, Global};
 
 /// A term as it stands in a text, with its factors in their order there.
@@ -20,83 +22,89 @@ pub(crate) struct RawTerm {
     pub(crate) powers: Vec<(u32, u16)>,
 }
 
-/// Whether the text begins with this byte.
-fn begins_with(text: &[u8], byte: u8) -> bool
-    ensures { result ≡ begins_with text.now byte }
-{
-    match text {
-        [] => false,
-        [first, ..] => *first == byte,
-    }
-}
-
-/// The text without its first bytes.
-fn behind(text: &[u8], count: usize) -> &[u8]
-    requires { count ≤ length text.now }
-    ensures { result.now ≡ drop count text.now }
-{
-    &text[count..]
-}
-
-/// What follows the digits at the front of a text.
-fn after_digits(text: &[u8]) -> &[u8]
-    ensures { result.now ≡ after_digits text.now }
-{
-    let mut rest = text;
-    'digits: while let [digit, others @ ..] = rest
-        && is_digit(*digit)
-    {
-        rest = others;
-    }
-    rest
-}
-
-/// What follows the sign at the front of a text, if there is one.
-fn after_sign(text: &[u8]) -> &[u8]
-    ensures { result.now ≡ after_sign text.now }
-{
-    match text {
-        [] => text,
-        [first, rest @ ..] => {
-            if *first == b'+' || *first == b'-' {
-                rest
-            } else {
-                text
-            }
-        }
-    }
+/// What reading has found in a text. A place is told by the number of bytes that are left there.
+#[derive(Drop)]
+pub(crate) struct Reading {
+    pub(crate) terms: Vec<RawTerm>,
+    /// The start of the first number out of range.
+    pub(crate) number_fault: Option<usize>,
+    /// The start of the first term or factor out of order.
+    pub(crate) disorder: Option<usize>,
 }
 
 /// The factor behind an `x`, and what follows it.
-fn split_factor(unknowns: u32, text: &[u8]) -> ((u32, u16), &[u8])
-    requires { IsLive unknowns State.Letter text.now }
-    ensures { IsFactorFront unknowns text.now result.0 result.1.now }
+fn split_factor<'a>(
+    unknowns: u32,
+    text: &'a [u8],
+    fault: &mut Option<usize>,
+) -> Result<((u32, u16), &'a [u8]), Stop>
+    ensures scan { MatchResult result (λ r. scan unknowns fault.old Letter text.now ≡ scan unknowns fault.new FactorEnd r.1.now) (IsStop (scan unknowns fault.old Letter text.now)) }
+    ensures front { IfOk result (λ r. IsLive unknowns Letter text.now → IsFactorFront unknowns text.now r.0 r.1.now) }
+    ensures shorter { IfOk result (λ r. length r.1.now ≤ length text.now) }
 {
-    let variable = number(text) as u32;
-    let rest = after_digits(text);
+    let (variable, rest) = split_variable(unknowns, text, fault)?;
     if begins_with(rest, b'^') {
-        let power = behind(rest, 1);
-        let exponent = number(power) as u16;
-        ((variable, exponent), after_digits(power))
+        let (exponent, further) = split_exponent(behind(rest, 1), fault)?;
+        Ok(((variable, exponent), further))
     } else {
-        ((variable, 1), rest)
+        Ok(((variable, 1), rest))
     }
 }
 
-/// Appends the factors at the front of a text, each behind a `*`, and gives what follows them.
+/// The factor behind a `*`, and what follows it.
+fn split_further_factor<'a>(
+    unknowns: u32,
+    text: &'a [u8],
+    fault: &mut Option<usize>,
+) -> Result<((u32, u16), &'a [u8]), Stop>
+    ensures scan { MatchResult result (λ r. scan unknowns fault.old Times text.now ≡ scan unknowns fault.new FactorEnd r.1.now) (IsStop (scan unknowns fault.old Times text.now)) }
+    ensures begins { IfOk result (λ r. begins_with text.now 120 ≡ true) }
+    ensures front { IfOk result (λ r. IsLive unknowns Letter (drop 1 text.now) → IsFactorFront unknowns (drop 1 text.now) r.0 r.1.now) }
+    ensures shorter { IfOk result (λ r. length r.1.now ≤ length text.now) }
+{
+    if !begins_with(text, b'x') {
+        return Err(Stop::Syntax { left: text.len() });
+    }
+    split_factor(unknowns, behind(text, 1), fault)
+}
+
+/// Appends a factor that starts where `left` bytes are left. Keeps that place where the factor's variable
+/// is not below the one before, and no such place is kept.
+fn push_factor(
+    power: (u32, u16),
+    left: usize,
+    powers: &mut Vec<(u32, u16)>,
+    disorder: &mut Option<usize>,
+) -> Result<(), AllocError>
+    ensures powers { OnOk result (powers.new.items ≡ powers.old.items ++ power ∷ []) }
+    ensures place { OnOk result (disorder.new ≡ (if is_falling powers.old.items power.0 then disorder.old else first_of disorder.old left)) }
+{
+    if !is_falling(powers, power.0) {
+        note(disorder, left);
+    }
+    powers.push(power)?;
+    Ok(())
+}
+
+/// Appends the factors at the front of a text, each behind a `*`, and gives what follows them. Keeps
+/// the place of the first factor whose variable is not below the one before.
 fn push_factors<'a>(
     unknowns: u32,
     text: &'a [u8],
     powers: &mut Vec<(u32, u16)>,
-) -> Result<&'a [u8], AllocError>
-    requires live { IsLive unknowns State.FactorEnd text.now }
-    requires in_range { AllByRecursion (IsFactorInRange unknowns) powers.old.items }
-    ensures { IfOk result (λ rest. IsFactorsFront unknowns text.now powers.old.items powers.new.items rest.now) }
+    fault: &mut Option<usize>,
+    disorder: &mut Option<usize>,
+) -> Result<&'a [u8], Stop>
+    ensures scan { MatchResult result (λ rest. scan unknowns fault.old FactorEnd text.now ≡ scan_end unknowns fault.new rest.now) (IsStop (scan unknowns fault.old FactorEnd text.now)) }
+    ensures front { IfOk result (λ rest. IsLive unknowns FactorEnd text.now → AllByRecursion (IsFactorInRange unknowns) powers.old.items → IsFactorsFront unknowns text.now powers.old.items powers.new.items rest.now) }
+    ensures order { IfOk result (λ rest. IsLive unknowns FactorEnd text.now → AllByRecursion (IsFactorInRange unknowns) powers.old.items → IsFactorPlace powers.old.items text.now disorder.old → IsFactorPlace powers.new.items rest.now disorder.new) }
+    ensures shorter { IfOk result (λ rest. length rest.now ≤ length text.now) }
 {
     let mut rest = text;
     'factors: while begins_with(rest, b'*') {
-        let (power, further) = split_factor(unknowns, behind(rest, 2));
-        powers.push(power)?;
+        let factor = behind(rest, 1);
+        let (power, further) = split_further_factor(unknowns, factor, fault)?;
+        push_factor(power, factor.len(), powers, disorder)?;
         rest = further;
     }
     Ok(rest)
@@ -108,89 +116,127 @@ fn split_body<'a>(
     unknowns: u32,
     text: &'a [u8],
     powers: &mut Vec<(u32, u16)>,
-) -> Result<(u128, &'a [u8]), AllocError>
-    requires live { IsLive unknowns State.Signed text.now }
+    fault: &mut Option<usize>,
+    disorder: &mut Option<usize>,
+) -> Result<(u128, &'a [u8]), Stop>
     requires empty { powers.old.items ≡ [] }
-    ensures { IfOk result (λ r. IsBodyFront unknowns text.now r.0 powers.new.items r.1.now) }
+    requires none { disorder.old ≡ None }
+    ensures scan { MatchResult result (λ r. scan unknowns fault.old Signed text.now ≡ scan_end unknowns fault.new r.1.now) (IsStop (scan unknowns fault.old Signed text.now)) }
+    ensures front { IfOk result (λ r. IsLive unknowns Signed text.now → IsBodyFront unknowns text.now r.0 powers.new.items r.1.now) }
+    ensures order { IfOk result (λ r. IsLive unknowns Signed text.now → IsFactorPlace powers.new.items r.1.now disorder.new) }
+    ensures small { IfOk result (λ r. r.0 ≤ max_coeff) }
+    ensures shorter { IfOk result (λ r. length r.1.now < length text.now) }
 {
     if begins_with(text, b'x') {
-        let (power, further) = split_factor(unknowns, behind(text, 1));
-        powers.push(power)?;
-        let rest = push_factors(unknowns, further, powers)?;
-        Ok((1, rest))
-    } else {
-        let size = number(text);
-        let rest = push_factors(unknowns, after_digits(text), powers)?;
-        Ok((size, rest))
+        let (power, further) = split_factor(unknowns, behind(text, 1), fault)?;
+        push_factor(power, text.len(), powers, disorder)?;
+        let rest = push_factors(unknowns, further, powers, fault, disorder)?;
+        return Ok((1, rest));
     }
+    let (size, further) = split_coefficient(text, fault)?;
+    if size == 1 {
+        return Ok((1, further));
+    }
+    let rest = push_factors(unknowns, further, powers, fault, disorder)?;
+    Ok((size, rest))
 }
 
-/// Appends the term behind a sign, and gives what follows it.
-fn push_term<'a>(
+/// The term behind a sign, the place of its first factor out of order, and what follows the term.
+fn split_term<'a>(
     alloc: Global,
     unknowns: u32,
     negative: bool,
     text: &'a [u8],
-    terms: &mut Vec<RawTerm>,
-) -> Result<&'a [u8], AllocError>
-    requires { IsLive unknowns State.Signed text.now }
-    ensures { IfOk result (λ rest. IsTermFront unknowns negative text.now (map raw terms.old.items) (map raw terms.new.items) rest.now) }
+    fault: &mut Option<usize>,
+) -> Result<(RawTerm, Option<usize>, &'a [u8]), Stop>
+    ensures scan { MatchResult result (λ r. scan unknowns fault.old Signed text.now ≡ scan_end unknowns fault.new r.2.now) (IsStop (scan unknowns fault.old Signed text.now)) }
+    ensures ends { IfOk result (λ r. ends_term r.2.now ≡ true) }
+    ensures front { IfOk result (λ r. IsLive unknowns Signed text.now → IsTermFront unknowns negative text.now (raw r.0) r.2.now) }
+    ensures order { IfOk result (λ r. IsLive unknowns Signed text.now → IsFactorPlace r.0.powers.items r.2.now r.1) }
+    ensures shorter { IfOk result (λ r. length r.2.now < length text.now) }
 {
     let mut powers = Vec::new(alloc);
-    let (size, rest) = split_body(unknowns, text, &mut powers)?;
+    let mut disorder = None;
+    let (size, rest) = split_body(unknowns, text, &mut powers, fault, &mut disorder)?;
+    if !ends_term(rest) {
+        return Err(Stop::Syntax { left: rest.len() });
+    }
     let size = size as i128;
     let coeff = if negative { -size } else { size };
-    terms.push(RawTerm { coeff, powers })?;
-    Ok(rest)
+    Ok((RawTerm { coeff, powers }, disorder, rest))
 }
 
-/// The terms of a text of the form whose numbers are in range.
-pub(crate) fn raw_terms(
+/// Appends a term that starts where `left` bytes are left, and keeps what breaks the order in it.
+fn push_term(
     alloc: Global,
-    unknowns: u32,
-    text: &[u8],
-) -> Result<Vec<RawTerm>, AllocError>
-    requires { IsLive unknowns State.Start text.now }
-    ensures spelled { IfOk result (λ v. text.now ≡ poly_text (map raw v.items)) }
-    ensures in_range { IfOk result (λ v. AreInRange unknowns (map raw v.items)) }
+    term: RawTerm,
+    left: usize,
+    factor: Option<usize>,
+    reading: &mut Reading,
+) -> Result<(), AllocError>
+    ensures terms { OnOk result (map raw reading.new.terms.items ≡ map raw reading.old.terms.items ++ raw term ∷ []) }
+    ensures fault { OnOk result (reading.new.number_fault ≡ reading.old.number_fault) }
+    ensures place { OnOk result (reading.new.disorder ≡ next_place reading.old.disorder (last_monomial None (map raw reading.old.terms.items)) term.powers.items left factor) }
 {
-    let mut terms = Vec::new(alloc);
-    if begins_with(text, b'0') {
-        return Ok(terms);
+    if reading.disorder.is_none() {
+        let below = is_term_below(alloc, last_powers(&reading.terms), &term.powers)?;
+        reading.disorder = if below { factor } else { Some(left) };
     }
-    let mut rest = text;
-    'terms: while !rest.is_empty() {
-        let negative = begins_with(rest, b'-');
-        rest = push_term(alloc, unknowns, negative, after_sign(rest), &mut terms)?;
-    }
-    Ok(terms)
-}
-
-fn push_raw_term(plus: &[u8], term: &RawTerm, into: &mut Vec<u8>) -> Result<(), AllocError>
-    ensures { OnOk result (into.new.items ≡ into.old.items ++ term_text plus.now (raw term.now)) }
-{
-    push_sign(plus, term.coeff, into)?;
-    push_body(term.coeff.unsigned_abs(), &term.powers, into)
-}
-
-fn push_more_raw_terms(terms: &[RawTerm], into: &mut Vec<u8>) -> Result<(), AllocError>
-    ensures { OnOk result (into.new.items ≡ into.old.items ++ more_terms (map raw terms.now)) }
-{
-    for term in terms {
-        push_raw_term(b"+", term, into)?;
-    }
+    reading.terms.push(term)?;
     Ok(())
 }
 
-/// Appends the text that these terms have.
-pub(crate) fn push_raw_terms(terms: &[RawTerm], into: &mut Vec<u8>) -> Result<(), AllocError>
-    ensures { OnOk result (into.new.items ≡ into.old.items ++ poly_text (map raw terms.now)) }
+/// Reads a term with its sign, and gives what follows it.
+fn read_term<'a>(
+    alloc: Global,
+    unknowns: u32,
+    text: &'a [u8],
+    reading: &mut Reading,
+) -> Result<&'a [u8], Stop>
+    requires some { 0 < length text.now }
+    requires at_sign { IsAtSign (map raw reading.old.terms.items) text.now }
+    ensures scan { MatchResult result (λ rest. scan_terms unknowns reading.old.number_fault (map raw reading.old.terms.items) text.now ≡ scan_terms unknowns reading.new.number_fault (map raw reading.new.terms.items) rest.now) (IsStop (scan_terms unknowns reading.old.number_fault (map raw reading.old.terms.items) text.now)) }
+    ensures at_sign { IfOk result (λ rest. IsAtSign (map raw reading.new.terms.items) rest.now) }
+    ensures terms { IfOk result (λ rest. (whole : List ℕ) → IsReadTo unknowns whole (map raw reading.old.terms.items) reading.old.disorder text.now → IsReadTo unknowns whole (map raw reading.new.terms.items) reading.new.disorder rest.now) }
+    ensures shorter { IfOk result (λ rest. length rest.now < length text.now) }
 {
-    match terms {
-        [] => push_text(b"0", into),
-        [first, rest @ ..] => {
-            push_raw_term(b"", first, into)?;
-            push_more_raw_terms(rest, into)
-        }
+    let negative = begins_with(text, b'-');
+    let (term, factor, rest) = split_term(
+        alloc,
+        unknowns,
+        negative,
+        after_sign(text),
+        &mut reading.number_fault,
+    )?;
+    push_term(alloc, term, text.len(), factor, reading)?;
+    Ok(rest)
+}
+
+/// Reads a text in one pass.
+pub(crate) fn read_terms(alloc: Global, unknowns: u32, text: &[u8]) -> Result<Reading, Stop>
+    ensures scan { MatchResult result (λ r. scan unknowns None Start text.now ≡ Ok r.number_fault) (IsStop (scan unknowns None Start text.now)) }
+    ensures terms { IfOk result (λ r. IsLive unknowns Start text.now → IsReading unknowns text.now (map raw r.terms.items) r.disorder) }
+{
+    let mut reading = Reading {
+        terms: Vec::new(alloc),
+        number_fault: None,
+        disorder: None,
+    };
+    if begins_with(text, b'0') {
+        return if text.len() == 1 {
+            Ok(reading)
+        } else {
+            Err(Stop::Syntax {
+                left: text.len() - 1,
+            })
+        };
     }
+    if text.is_empty() || begins_with(text, b'+') {
+        return Err(Stop::Syntax { left: text.len() });
+    }
+    let mut rest = text;
+    'terms: while !rest.is_empty() {
+        rest = read_term(alloc, unknowns, rest, &mut reading)?;
+    }
+    Ok(reading)
 }

@@ -5,10 +5,8 @@ ghost use Rattle.sparse_poly.specs.Contributions.{IsPoly};
 ghost use Rattle.poly_text.specs.Raw.{raw};
 ghost use Rattle.poly_text.specs.Reading.{IsSpelling, IsTextFault};
 
-use crate::form::syntax_fault;
-use crate::numbers::number_fault;
-use crate::order::{first_disorder, place};
-use crate::raw::{RawTerm, raw_terms};
+use crate::form::Stop;
+use crate::raw::{RawTerm, read_terms};
 use monomial::Monomial;
 use sparse_poly::{Poly, PolyFault, Term};
 use std::alloc::{AllocError, AllocFailed, Global};
@@ -72,17 +70,25 @@ fn poly_of(alloc: Global, terms: &[RawTerm]) -> Result<Poly, AllocError>
 pub fn read_poly(alloc: Global, text: &[u8], unknowns: u32) -> Result<Poly, PolyTextFault>
     ensures { MatchResult result (IsSpelling unknowns text.now) (IsTextFault unknowns text.now) }
 {
-    if let Some(at) = syntax_fault(text) {
-        return Err(PolyTextFault::Syntax { at: at as u64 });
+    let reading = match read_terms(alloc, unknowns, text) {
+        Ok(reading) => reading,
+        Err(Stop::Syntax { left }) => {
+            return Err(PolyTextFault::Syntax {
+                at: (text.len() - left) as u64,
+            });
+        }
+        Err(Stop::OutOfMemory) => return Err(PolyTextFault::OutOfMemory),
+    };
+    if let Some(left) = reading.number_fault {
+        return Err(PolyTextFault::Number {
+            at: (text.len() - left) as u64,
+        });
     }
-    if let Some(at) = number_fault(unknowns, text) {
-        return Err(PolyTextFault::Number { at: at as u64 });
+    if let Some(left) = reading.disorder {
+        return Err(PolyTextFault::Order {
+            at: (text.len() - left) as u64,
+        });
     }
-    let terms = raw_terms(alloc, unknowns, text)?;
-    if let Some(disorder) = first_disorder(alloc, &terms)? {
-        let at = place(alloc, &terms, disorder)?;
-        return Err(PolyTextFault::Order { at: at as u64 });
-    }
-    let poly = poly_of(alloc, &terms)?;
+    let poly = poly_of(alloc, &reading.terms)?;
     Ok(poly)
 }

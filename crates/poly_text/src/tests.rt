@@ -145,7 +145,13 @@ Order { at: 5 } | x2*x1-x2*x0*x1
 Order { at: 8 } | x3^2-x1*x3*x1
 Order { at: 4 } | x3^5-x0*x1*x2*x3*x0*x1*x2*x3*x0*x1*x2*x3*x0*x1*x2*x3*x0*x1*x2*x3
 Order { at: 8 } | x3^6-x0*x1*x2*x3*x0*x1*x2*x3*x0*x1*x2*x3*x0*x1*x2*x3*x0*x1*x2*x3
-Order { at: 8 } | x9+x8-x7+x9"#;
+Order { at: 8 } | x9+x8-x7+x9
+Order { at: 3 } | x0*x1*x2+x5
+Order { at: 2 } | x0+x0*x1
+Number { at: 1 } | x100+x200
+Number { at: 7 } | x0+x1+x100+x200
+Syntax { at: 8 } | x100+x0*
+Syntax { at: 6 } | x0+x1+"#;
 
 fn answer(alloc: Global, text: &str) -> Result<String, AllocError> {
     match read_poly(alloc, text.as_bytes(), 100) {

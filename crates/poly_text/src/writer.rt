@@ -1,21 +1,22 @@
 //! The writer.
 
-ghost use Rattle.std.specs.Prelude.{◌≡◌, ◌++◌, OnOk, OnErr, decimal, codes, [], ◌==◌, if◌then◌else◌};
+ghost use Rattle.std.specs.Prelude.{◌≡◌, ◌<◌, ◌++◌, OnOk, OnErr, decimal, codes, [], ◌==◌, if◌then◌else◌, drop, length};
 ghost use Rattle.poly_text.specs.Text.{factor_text, more_factors, body_text, sign_text, term_text, more_terms, poly_text};
 
-use itoa::Buffer;
+use itoa::{Buffer, Integer};
+use monomial::Monomial;
 use sparse_poly::{Poly, Term};
 use std::alloc::AllocError;
 
-pub(crate) fn push_text(text: &[u8], into: &mut Vec<u8>) -> Result<(), AllocError>
+fn push_text(text: &[u8], into: &mut Vec<u8>) -> Result<(), AllocError>
     ensures { OnOk result (into.new.items ≡ into.old.items ++ text.now) }
 {
     into.extend_from_slice(text)?;
     Ok(())
 }
 
-fn push_number(n: u128, into: &mut Vec<u8>) -> Result<(), AllocError>
-    ensures { OnOk result (into.new.items ≡ into.old.items ++ decimal n) }
+fn push_number<I: Integer>(n: I, into: &mut Vec<u8>) -> Result<(), AllocError>
+    ensures { OnOk result (into.new.items ≡ into.old.items ++ I.text n) }
 {
     let mut buffer = Buffer::new();
     push_text(buffer.format(n).as_bytes(), into)
@@ -25,20 +26,25 @@ fn push_factor(variable: u32, exponent: u16, into: &mut Vec<u8>) -> Result<(), A
     ensures { OnOk result (into.new.items ≡ into.old.items ++ factor_text (variable, exponent)) }
 {
     push_text(b"x", into)?;
-    push_number(variable as u128, into)?;
+    push_number(variable, into)?;
     if exponent != 1 {
         push_text(b"^", into)?;
-        push_number(exponent as u128, into)?;
+        push_number(exponent, into)?;
     }
     Ok(())
 }
 
-fn push_more_factors(powers: &[(u32, u16)], into: &mut Vec<u8>) -> Result<(), AllocError>
-    ensures { OnOk result (into.new.items ≡ into.old.items ++ more_factors powers.now) }
+// The factors of a monomial behind its first.
+fn push_more_factors(monomial: &Monomial, into: &mut Vec<u8>) -> Result<(), AllocError>
+    requires { 0 < length monomial.now }
+    ensures { OnOk result (into.new.items ≡ into.old.items ++ more_factors (drop 1 monomial.now)) }
 {
-    for power in powers {
+    let mut place = 1;
+    'factors: while place < monomial.len() {
+        let power = monomial.power_at(place);
         push_text(b"*", into)?;
         push_factor(power.0, power.1, into)?;
+        place += 1;
     }
     Ok(())
 }
@@ -53,24 +59,19 @@ fn push_size(n: u128, into: &mut Vec<u8>) -> Result<(), AllocError>
     Ok(())
 }
 
-pub(crate) fn push_body(
-    n: u128,
-    powers: &[(u32, u16)],
-    into: &mut Vec<u8>,
-) -> Result<(), AllocError>
-    ensures { OnOk result (into.new.items ≡ into.old.items ++ body_text n powers.now) }
+fn push_body(n: u128, monomial: &Monomial, into: &mut Vec<u8>) -> Result<(), AllocError>
+    ensures { OnOk result (into.new.items ≡ into.old.items ++ body_text n monomial.now) }
 {
-    match powers {
-        [] => push_number(n, into),
-        [first, rest @ ..] => {
-            push_size(n, into)?;
-            push_factor(first.0, first.1, into)?;
-            push_more_factors(rest, into)
-        }
+    if monomial.len() == 0 {
+        return push_number(n, into);
     }
+    let first = monomial.power_at(0);
+    push_size(n, into)?;
+    push_factor(first.0, first.1, into)?;
+    push_more_factors(monomial, into)
 }
 
-pub(crate) fn push_sign(plus: &[u8], coeff: i128, into: &mut Vec<u8>) -> Result<(), AllocError>
+fn push_sign(plus: &[u8], coeff: i128, into: &mut Vec<u8>) -> Result<(), AllocError>
     ensures { OnOk result (into.new.items ≡ into.old.items ++ sign_text plus.now coeff) }
 {
     if coeff < 0 {
@@ -84,7 +85,7 @@ fn push_term(plus: &[u8], term: &Term, into: &mut Vec<u8>) -> Result<(), AllocEr
     ensures { OnOk result (into.new.items ≡ into.old.items ++ term_text plus.now term.now) }
 {
     push_sign(plus, term.coeff, into)?;
-    push_body(term.coeff.unsigned_abs(), term.monomial.powers(), into)
+    push_body(term.coeff.unsigned_abs(), &term.monomial, into)
 }
 
 fn push_more_terms(terms: &[Term], into: &mut Vec<u8>) -> Result<(), AllocError>

@@ -1,9 +1,0 @@
-use Rattle.std.proofs.Common.{◌≡◌, length}
-use Rattle.poly_text.specs.Numbers.{after_digits}
-use Rattle.poly_text.proofs.raw.after_digits.Given as goal
-
-abbrev pub invariant-digits : goal.invariant-digits
-invariant-digits l = after_digits l.text ≡ after_digits l.rest
-
-abbrev pub decreases-digits : goal.decreases-digits
-decreases-digits l = length l.rest
