@@ -3,7 +3,10 @@ use Rattle.sparse_poly.proofs.Merges.{Merging-start, Merging-more, Merging-end, 
 use Rattle.sparse_poly.proofs.merging.merge.Goals as goal
 
 pub both-init : goal.both-init
-both-init c = rw c.in_ok-shares.ensures.items (Merging-start _ _)
+both-init c =
+    let first : c.from-first.result.items ≡ c.args.first.items = search rules in
+    let second : c.from-second.result.items ≡ c.args.second.items = search rules in
+    rw (c.in_ok-shares.ensures.items, first, second) (Merging-start _ _)
 
 pub both-preserved : goal.both-preserved
 both-preserved c =
@@ -11,4 +14,4 @@ both-preserved c =
     rw items (Merging-more _ _ _ _ _ _ _ c.in-Some.share c.both.invariant c.in-Some.ensures)
 
 pub returns : goal.returns
-returns c = Merging-end _ _ c.both.first.items c.both.second.items c.both.shares.items _ c.both.invariant (no_next _ _ _ _ c.next_share.result c.in_default.not-Some c.next_share.ensures) c.reverse.ensures.items
+returns c = Merging-end _ _ c.both.first.items c.both.second.items c.both.shares.items c.both.invariant (no_next _ _ _ _ c.next_share.result c.in_default.not-Some c.next_share.ensures)
