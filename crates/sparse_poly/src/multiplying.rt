@@ -1,8 +1,8 @@
 //! Products of polynomials as shares.
-ghost use Rattle.std.specs.Prelude.{◌≡◌, ◌*ℤ◌, unsigned_abs, List, [], ◌∷◌, ◌++◌, OnOk, IfOk, IfErr, MatchResult};
+ghost use Rattle.std.specs.Prelude.{◌≡◌, ◌≤◌, ◌*ℤ◌, unsigned_abs, List, [], ◌∷◌, ◌++◌, OnOk, IfOk, IfErr, MatchResult};
 ghost use Rattle.std.specs.declared.option.Option.TheVariants.{None, Some};
 ghost use Rattle.monomial.specs.Monomials.{IsMonomial};
-ghost use Rattle.sparse_poly.specs.Contributions.{signed, kept, signed_row, signed_products, higher, degree_of, contributions, IsFalling, IsPoly, IsResult, IsFault, IsNoDegree};
+ghost use Rattle.sparse_poly.specs.Contributions.{max_coeff, signed, kept, signed_row, signed_products, higher, degree_of, contributions, IsFalling, IsPoly, IsResult, IsFault, IsNoDegree};
 ghost use Rattle.sparse_poly.specs.Polynomials.{products};
 ghost use Rattle.sparse_poly.specs.Standing.{Agree, Stands, AllMonomials, IsDescending, IsAdded};
 
@@ -121,6 +121,9 @@ fn gathered(alloc: Global, terms: Vec<Term>) -> Result<Vec<Share>, AllocError>
 fn kept_product(x: i128, y: i128, minus: bool) -> i128
     ensures { result ≡ kept (signed minus (x *ℤ y)) }
 {
+    if let (Ok(x), Ok(y)) = (i64::try_from(x), i64::try_from(y)) {
+        return small_product(x, y, minus);
+    }
     match x.checked_mul(y) {
         Some(z) => {
             if z == i128::MIN {
@@ -130,6 +133,15 @@ fn kept_product(x: i128, y: i128, minus: bool) -> i128
         }
         None => i128::MIN,
     }
+}
+
+// The product of two coefficients of 64 bits with its sign.
+fn small_product(x: i64, y: i64, minus: bool) -> i128
+    ensures value { result ≡ signed minus (x *ℤ y) }
+    ensures bound { unsigned_abs result ≤ max_coeff }
+{
+    let z = i128::from(x) * i128::from(y);
+    if minus { -z } else { z }
 }
 
 // The share of one contribution.
