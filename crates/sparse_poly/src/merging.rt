@@ -38,7 +38,7 @@ pub fn merge(first: Vec<Share>, second: Vec<Share>) -> Result<Vec<Share>, AllocE
     let mut first = VecDeque::from(first);
     let mut second = VecDeque::from(second);
     'both: while let Some(share) = next_share(&mut first, &mut second) {
-        shares.push(share)?;
+        shares.push_reserved(share);
     }
     Ok(shares)
 }
