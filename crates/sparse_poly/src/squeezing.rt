@@ -21,10 +21,10 @@ pub fn squeeze(shares: Vec<Share>) -> Result<Vec<Term>, PolyFault>
         }
         let _powers = share.monomial.len();
         if share.sum != 0 {
-            terms.push(Term {
+            terms.push_reserved(Term {
                 monomial: share.monomial,
                 coeff: share.sum,
-            })?;
+            });
         }
     }
     Ok(terms)
