@@ -21,7 +21,7 @@ use Rattle.sparse_poly.specs.Primitive.{DividesAll, IsPrimitive}
 use Rattle.sparse_poly.specs.Standing.{AllMonomials}
 use Rattle.sparse_poly.specs.Factors.{IsCommonDivisor, HasLeadingSign, IsSignedSize, IsContent, IsQuotient}
 use Rattle.sparse_poly.proofs.Adding.{take_one}
-use Rattle.sparse_poly.proofs.Rising.{all_more}
+use Rattle.sparse_poly.proofs.Descending.{all_more}
 use Rattle.sparse_poly.proofs.Total.{same_term}
 
 some_size : (z : ℤ) → z ≢ pos 0 → 0 < unsigned_abs z

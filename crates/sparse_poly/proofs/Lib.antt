@@ -4,7 +4,7 @@ pub mod Evaluation
 pub mod Adding
 pub mod Sums
 pub mod Standings
-pub mod Rising
+pub mod Descending
 pub mod Merges
 pub mod Squeezes
 pub mod Rows

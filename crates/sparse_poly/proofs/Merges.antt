@@ -1,11 +1,9 @@
--- The merge of two rising lists of shares.
-use Rattle.std.specs.Prelude.{reverse, ◌≡◌, ◌<◌, ℕ, ◌+◌, ◌-◌, Bool, true, false, if◌then◌else◌, ℤ, pos, ◌+ℤ◌, List, [], ◌∷◌, ◌++◌, length, slice_index_or, refl}
+-- The merge of two falling lists of shares.
+use Rattle.std.specs.Prelude.{◌≡◌, ◌<◌, ℕ, ◌+◌, Bool, true, false, if◌then◌else◌, ℤ, pos, ◌+ℤ◌, List, [], ◌∷◌, ◌++◌, length, suc, slice_index_or, refl}
 use mathlib.Core.Logic.{inl, inr}
 use Rattle.std.proofs.Common.{arith, sym, ◌∙◌, ap, subst}
 use Rattle.std.proofs.lemmas.Int.{ints}
 use Rattle.std.specs.Ordering.{is_eq, ordering_reverse}
-use Rattle.std.specs.List.Sorted.{IsPermutation}
-use Rattle.std.proofs.lemmas.List.Sorted.{IsPermutation-reverse}
 use Rattle.std.specs.List.{AllByRecursion}
 use Rattle.std.specs.declared.cmp.Ordering.TheVariants.{Less, Equal, Greater}
 use Rattle.std.specs.declared.option.Option.{Option}
@@ -13,35 +11,30 @@ use Rattle.std.specs.declared.option.Option.TheVariants.{None, Some}
 use Rattle.monomial.specs.Monomials.{monomial_cmp}
 use Rattle.monomial.proofs.Total.{monomial_cmp-IsAntisymmetric, monomial_cmp-IsTotalOrder}
 use Rattle.sparse_poly.specs.declared.entry.Share.{Share}
-use Rattle.sparse_poly.specs.Standing.{ssum, sweight, Agree, StandsForBoth, AllBelow, IsRising, IsDescending, IsTaken, IsNext, IsMerged, IsSorted}
+use Rattle.sparse_poly.specs.Standing.{ssum, sweight, Agree, StandsForBoth, AllBelow, IsDescending, IsTaken, IsNext, IsMerged, IsSorted}
 use Rattle.sparse_poly.proofs.Evaluation.{zero_plus}
-use Rattle.sparse_poly.proofs.Sums.{ssum-append, sweight-append, ssum-permuted, sweight-permuted, last_at}
+use Rattle.sparse_poly.proofs.Sums.{ssum-append, sweight-append}
 use Rattle.sparse_poly.proofs.Standings.{agree_plus, agree_through, same_agrees}
-use Rattle.sparse_poly.proofs.Rising.{all_front, all_last, all_more, rising_front, rising_last, below_through, descending_more, IsRising-reverse}
+use Rattle.sparse_poly.proofs.Descending.{all_more, below_through, descending_more}
 
 -- the share that goes, with what is left of two lists: how many, and their sums
 abbrev Counted : List Share → List Share → List Share → List Share → Share → Type 0
 Counted xs ys us vs s = (length us + length vs < length xs + length ys) × ((m : List (ℕ × ℕ)) → Agree (sweight (s ∷ []) m + (sweight us m + sweight vs m)) (ssum (s ∷ []) m +ℤ (ssum us m +ℤ ssum vs m)) (sweight xs m + sweight ys m) (ssum xs m +ℤ ssum ys m))
 
-end_length : (us : List Share) (x : Share) → length (us ++ x ∷ []) ≡ length us + 1
-end_length [] x = refl
-end_length (u ∷ us) x = let rest = end_length us x in omega arith
-
-sums_end : (us : List Share) (x : Share) (m : List (ℕ × ℕ)) → (sweight (us ++ x ∷ []) m ≡ sweight (x ∷ []) m + sweight us m) × (ssum (us ++ x ∷ []) m ≡ ssum (x ∷ []) m +ℤ ssum us m)
-sums_end us x m =
-    (sweight-append m us (x ∷ []) ∙ swap (sweight us m) (sweight (x ∷ []) m), ssum-append m us (x ∷ []) ∙ swap_sum (ssum us m) (ssum (x ∷ []) m))
+sums_front : (us : List Share) (x : Share) (m : List (ℕ × ℕ)) → (sweight (x ∷ us) m ≡ sweight (x ∷ []) m + sweight us m) × (ssum (x ∷ us) m ≡ ssum (x ∷ []) m +ℤ ssum us m)
+sums_front us x m = (plain (if is_eq (monomial_cmp m x.monomial) then x.weight else 0) (sweight us m), plain_sum (if is_eq (monomial_cmp m x.monomial) then x.sum else pos 0) (ssum us m))
   where
-    swap : (a b : ℕ) → a + b ≡ b + a
-    swap a b = omega arith
+    plain : (a b : ℕ) → a + b ≡ (a + 0) + b
+    plain a b = omega arith
 
-    swap_sum : (a b : ℤ) → a +ℤ b ≡ b +ℤ a
-    swap_sum a b = omega (arith, ints)
+    plain_sum : (a b : ℤ) → a +ℤ b ≡ (a +ℤ pos 0) +ℤ b
+    plain_sum a b = omega (arith, ints)
 
-sums_first : (xs ys us : List Share) (x : Share) → xs ≡ us ++ x ∷ [] → Counted xs ys us ys x
+sums_first : (xs ys us : List Share) (x : Share) → xs ≡ x ∷ us → Counted xs ys us ys x
 sums_first xs ys us x e =
-    let long : length xs ≡ length us + 1 = ap length e ∙ end_length us x in (
+    let long : length xs ≡ suc (length us) = ap length e in (
       omega arith,
-      λ m. let s = sums_end us x m in
+      λ m. let s = sums_front us x m in
           same_agrees _ _ _ _ (assoc (sweight (x ∷ []) m) (sweight us m) (sweight ys m) ∙ ap (λ n. n + sweight ys m) (sym s.0 ∙ ap (λ zs. sweight zs m) (sym e)))
           (assoc_sum (ssum (x ∷ []) m) (ssum us m) (ssum ys m) ∙ ap (λ n. n +ℤ ssum ys m) (sym s.1 ∙ ap (λ zs. ssum zs m) (sym e))),
     )
@@ -52,11 +45,11 @@ sums_first xs ys us x e =
     assoc_sum : (a b c : ℤ) → a +ℤ (b +ℤ c) ≡ (a +ℤ b) +ℤ c
     assoc_sum a b c = omega (arith, ints)
 
-sums_second : (xs ys vs : List Share) (y : Share) → ys ≡ vs ++ y ∷ [] → Counted xs ys xs vs y
+sums_second : (xs ys vs : List Share) (y : Share) → ys ≡ y ∷ vs → Counted xs ys xs vs y
 sums_second xs ys vs y e =
-    let long : length ys ≡ length vs + 1 = ap length e ∙ end_length vs y in (
+    let long : length ys ≡ suc (length vs) = ap length e in (
       omega arith,
-      λ m. let s = sums_end vs y m in
+      λ m. let s = sums_front vs y m in
           same_agrees _ _ _ _ (assoc (sweight (y ∷ []) m) (sweight xs m) (sweight vs m) ∙ ap (λ n. sweight xs m + n) (sym s.0 ∙ ap (λ zs. sweight zs m) (sym e)))
           (assoc_sum (ssum (y ∷ []) m) (ssum xs m) (ssum vs m) ∙ ap (λ n. ssum xs m +ℤ n) (sym s.1 ∙ ap (λ zs. ssum zs m) (sym e))),
     )
@@ -91,12 +84,12 @@ joined_at s x y e f a m =
     either true = plain s.weight x.weight y.weight s.sum x.sum y.sum a
     either false = inl (omega arith, omega (arith, ints))
 
-sums_both : (xs ys us vs : List Share) (x y s : Share) → xs ≡ us ++ x ∷ [] → ys ≡ vs ++ y ∷ [] → x.monomial ≡ y.monomial → s.monomial ≡ x.monomial → Agree s.weight s.sum (x.weight + y.weight) (x.sum +ℤ y.sum) → Counted xs ys us vs s
+sums_both : (xs ys us vs : List Share) (x y s : Share) → xs ≡ x ∷ us → ys ≡ y ∷ vs → x.monomial ≡ y.monomial → s.monomial ≡ x.monomial → Agree s.weight s.sum (x.weight + y.weight) (x.sum +ℤ y.sum) → Counted xs ys us vs s
 sums_both xs ys us vs x y s e f g h a =
-    let long : length xs ≡ length us + 1 = ap length e ∙ end_length us x in
-    let also : length ys ≡ length vs + 1 = ap length f ∙ end_length vs y in (
+    let long : length xs ≡ suc (length us) = ap length e in
+    let also : length ys ≡ suc (length vs) = ap length f in (
       omega arith,
-      λ m. let p = sums_end us x m in let q = sums_end vs y m in
+      λ m. let p = sums_front us x m in let q = sums_front vs y m in
           agree_through _ _ _ _ _ _ (agree_plus _ _ _ _ _ _ _ _ (joined_at s x y h g a m) (inl (refl, refl)))
           (same_agrees _ _ _ _
           (pairs (sweight (x ∷ []) m) (sweight (y ∷ []) m) (sweight us m) (sweight vs m) ∙ ap (λ n. n + (sweight (y ∷ []) m + sweight vs m)) (sym p.0 ∙ ap (λ zs. sweight zs m) (sym e)) ∙ ap (λ n. sweight xs m + n) (sym q.0 ∙ ap (λ zs. sweight zs m) (sym f)))
@@ -130,12 +123,12 @@ Sums-more xs ys us vs us' vs' out s g h m =
     assoc_sum : (a b c : ℤ) → (a +ℤ b) +ℤ c ≡ a +ℤ (b +ℤ c)
     assoc_sum a b c = omega (arith, ints)
 
-Sums-end : (xs ys us vs out zs : List Share) → Sums xs ys us vs out → (us ≡ []) × (vs ≡ []) → IsPermutation out zs → StandsForBoth zs xs ys
+Sums-end : (xs ys us vs out : List Share) → Sums xs ys us vs out → (us ≡ []) × (vs ≡ []) → StandsForBoth out xs ys
 unfolding Sums
-Sums-end xs ys us vs out zs g (e, f) p m =
+Sums-end xs ys us vs out g (e, f) m =
     agree_through _ _ _ _ _ _
-    (same_agrees _ _ _ _ (sweight-permuted m out zs p ∙ nothing (sweight out m) ∙ ap (λ n. sweight out m + n) (sym (ap (λ zs. sweight zs m + sweight vs m) e ∙ ap (λ zs. 0 + sweight zs m) f)))
-    (ssum-permuted m out zs p ∙ nothing_sum (ssum out m) ∙ ap (λ n. ssum out m +ℤ n) (sym (ap (λ zs. ssum zs m +ℤ ssum vs m) e ∙ ap (λ zs. pos 0 +ℤ ssum zs m) f))))
+    (same_agrees _ _ _ _ (nothing (sweight out m) ∙ ap (λ n. sweight out m + n) (sym (ap (λ zs. sweight zs m + sweight vs m) e ∙ ap (λ zs. 0 + sweight zs m) f)))
+    (nothing_sum (ssum out m) ∙ ap (λ n. ssum out m +ℤ n) (sym (ap (λ zs. ssum zs m +ℤ ssum vs m) e ∙ ap (λ zs. pos 0 +ℤ ssum zs m) f))))
     (g m)
   where
     nothing : (a : ℕ) → a ≡ a + (0 + 0)
@@ -144,41 +137,41 @@ Sums-end xs ys us vs out zs g (e, f) p m =
     nothing_sum : (a : ℤ) → a ≡ a +ℤ (pos 0 +ℤ pos 0)
     nothing_sum a = omega (arith, ints)
 
-front_of : (xs ys us : List Share) (x : Share) → xs ≡ us ++ x ∷ [] → IsRising xs → IsRising us × AllBelow x.monomial us
-front_of xs ys us x e r = let split : IsRising (us ++ x ∷ []) = subst IsRising e r in (rising_front us (x ∷ []) split, rising_last us x split)
+front_of : (xs us : List Share) (x : Share) → xs ≡ x ∷ us → IsDescending xs → IsDescending us × AllBelow x.monomial us
+front_of xs us x e d = let split : IsDescending (x ∷ us) = subst IsDescending e d in (split.1, split.0)
 
-bound_of : (k : List (ℕ × ℕ)) (xs us : List Share) (x : Share) → xs ≡ us ++ x ∷ [] → AllBelow k xs → AllBelow k us × (monomial_cmp x.monomial k ≡ Less)
-bound_of k xs us x e b = let split : AllBelow k (us ++ x ∷ []) = subst (AllBelow k) e b in (all_front _ us (x ∷ []) split, all_last _ us x split)
+bound_of : (k : List (ℕ × ℕ)) (xs us : List Share) (x : Share) → xs ≡ x ∷ us → AllBelow k xs → AllBelow k us × (monomial_cmp x.monomial k ≡ Less)
+bound_of k xs us x e b = let split : AllBelow k (x ∷ us) = subst (AllBelow k) e b in (split.1, split.0)
 
-pub IsNext-first : (xs ys us : List Share) (x : Share) → xs ≡ us ++ x ∷ [] → (IsRising ys → AllBelow x.monomial ys) → IsNext xs ys us ys (Some x)
+pub IsNext-first : (xs ys us : List Share) (x : Share) → xs ≡ x ∷ us → (IsDescending ys → AllBelow x.monomial ys) → IsNext xs ys us ys (Some x)
 IsNext-first xs ys us x e low =
     let c = sums_first xs ys us x e in
     record {
       shorter = c.0;
       sums = c.1;
-      rising = λ r s. let f = front_of xs ys us x e r in (f.0, s, f.1, low s);
+      falling = λ r s. let f = front_of xs us x e r in (f.0, s, f.1, low s);
       bounded = λ k b d. let f = bound_of k xs us x e b in (f.0, d, f.1);
     }
 
-pub IsNext-second : (xs ys vs : List Share) (y : Share) → ys ≡ vs ++ y ∷ [] → (IsRising xs → AllBelow y.monomial xs) → IsNext xs ys xs vs (Some y)
+pub IsNext-second : (xs ys vs : List Share) (y : Share) → ys ≡ y ∷ vs → (IsDescending xs → AllBelow y.monomial xs) → IsNext xs ys xs vs (Some y)
 IsNext-second xs ys vs y e low =
     let c = sums_second xs ys vs y e in
     record {
       shorter = c.0;
       sums = c.1;
-      rising = λ r s. let f = front_of ys xs vs y e s in (r, f.0, low r, f.1);
+      falling = λ r s. let f = front_of ys vs y e s in (r, f.0, low r, f.1);
       bounded = λ k b d. let f = bound_of k ys vs y e d in (b, f.0, f.1);
     }
 
-pub IsNext-both : (xs ys us vs : List Share) (x y s : Share) → xs ≡ us ++ x ∷ [] → ys ≡ vs ++ y ∷ [] → x.monomial ≡ y.monomial → s.monomial ≡ x.monomial → Agree s.weight s.sum (x.weight + y.weight) (x.sum +ℤ y.sum) → IsNext xs ys us vs (Some s)
+pub IsNext-both : (xs ys us vs : List Share) (x y s : Share) → xs ≡ x ∷ us → ys ≡ y ∷ vs → x.monomial ≡ y.monomial → s.monomial ≡ x.monomial → Agree s.weight s.sum (x.weight + y.weight) (x.sum +ℤ y.sum) → IsNext xs ys us vs (Some s)
 IsNext-both xs ys us vs x y s e f g h a =
     let c = sums_both xs ys us vs x y s e f g h a in
     record {
       shorter = c.0;
       sums = c.1;
-      rising = λ r t.
-          let p = front_of xs ys us x e r in
-          let q = front_of ys xs vs y f t in
+      falling = λ r t.
+          let p = front_of xs us x e r in
+          let q = front_of ys vs y f t in
           (p.0, q.0, subst (λ m. AllBelow m us) (sym h) p.1, subst (λ m. AllBelow m vs) (sym (h ∙ g)) q.1);
       bounded = λ k b d.
           let p = bound_of k xs us x e b in
@@ -189,10 +182,10 @@ IsNext-both xs ys us vs x y s e f g h a =
 -- what the loop of a merge keeps
 pub record Merging (xs ys us vs out : List Share) : Type 0 where
   pub sums : Sums xs ys us vs out
-  pub rising : IsRising xs → IsRising ys → IsRising us × IsRising vs × IsDescending out × AllByRecursion (λ (s : Share). AllBelow s.monomial us × AllBelow s.monomial vs) out
+  pub falling : IsDescending xs → IsDescending ys → IsDescending us × IsDescending vs × IsDescending out × AllByRecursion (λ (s : Share). AllBelow s.monomial us × AllBelow s.monomial vs) out
 
 pub Merging-start : (xs ys : List Share) → Merging xs ys xs ys []
-Merging-start xs ys = record { sums = Sums-start xs ys; rising = λ r s. (r, s, tt, tt) }
+Merging-start xs ys = record { sums = Sums-start xs ys; falling = λ r s. (r, s, tt, tt) }
 
 low_all : (us vs us' vs' out : List Share) (s : Share) → IsTaken us vs us' vs' s → AllByRecursion (λ (o : Share). AllBelow o.monomial us × AllBelow o.monomial vs) out → AllByRecursion (λ (o : Share). AllBelow o.monomial us' × AllBelow o.monomial vs') out × AllByRecursion (λ (o : Share). monomial_cmp s.monomial o.monomial ≡ Less) out
 low_all us vs us' vs' [] s t h = (tt, tt)
@@ -204,30 +197,30 @@ low_all us vs us' vs' (o ∷ out) s t h =
 pub Merging-more : (xs ys us vs us' vs' out : List Share) (s : Share) → Merging xs ys us vs out → IsNext us vs us' vs' (Some s) → Merging xs ys us' vs' (out ++ s ∷ [])
 Merging-more xs ys us vs us' vs' out s g h = record {
   sums = Sums-more xs ys us vs us' vs' out s g.sums h;
-  rising = λ r t.
-      let old = g.rising r t in
-      let new = h.rising old.0 old.1 in
+  falling = λ r t.
+      let old = g.falling r t in
+      let new = h.falling old.0 old.1 in
       let low = low_all us vs us' vs' out s h old.3 in
       (new.0, new.1, descending_more out s old.2 low.1, all_more (λ (o : Share). AllBelow o.monomial us' × AllBelow o.monomial vs') out s low.0 (new.2, new.3));
 }
 
-pub Merging-end : (xs ys us vs out zs : List Share) → Merging xs ys us vs out → (us ≡ []) × (vs ≡ []) → zs ≡ reverse out → IsMerged xs ys zs
-Merging-end xs ys us vs out zs g ended e = record {
-  both = Sums-end xs ys us vs out zs g.sums ended (subst (IsPermutation out) (sym e) (IsPermutation-reverse out));
-  rising = λ r t. subst IsRising (sym e) (IsRising-reverse out (g.rising r t).2);
+pub Merging-end : (xs ys us vs out : List Share) → Merging xs ys us vs out → (us ≡ []) × (vs ≡ []) → IsMerged xs ys out
+Merging-end xs ys us vs out g ended = record {
+  both = Sums-end xs ys us vs out g.sums ended;
+  falling = λ r t. (g.falling r t).2;
 }
 
--- the ends of two lists
-end_is : (xs us : List Share) (x0 x : Share) → x0 ≡ slice_index_or xs (length xs - 1) x0 → xs ≡ us ++ x ∷ [] → x0 ≡ x
-end_is xs us x0 x i e = i ∙ ap (λ zs. slice_index_or zs (length zs - 1) x0) e ∙ last_at us x x0
+-- the fronts of two lists
+front_is : (xs us : List Share) (x0 x : Share) → x0 ≡ slice_index_or xs 0 x0 → xs ≡ x ∷ us → x0 ≡ x
+front_is xs us x0 x i e = i ∙ ap (λ zs. slice_index_or zs 0 x0) e
 
-pub ends_same : (xs ys us vs : List Share) (x0 y0 x y : Share) → x0 ≡ slice_index_or xs (length xs - 1) x0 → y0 ≡ slice_index_or ys (length ys - 1) y0 → monomial_cmp x0.monomial y0.monomial ≡ Equal → xs ≡ us ++ x ∷ [] → ys ≡ vs ++ y ∷ [] → x.monomial ≡ y.monomial
-ends_same xs ys us vs x0 y0 x y i j o e f =
-    sym (ap (λ (u : Share). u.monomial) (end_is xs us x0 x i e)) ∙ monomial_cmp-IsAntisymmetric x0.monomial y0.monomial o ∙ ap (λ (u : Share). u.monomial) (end_is ys vs y0 y j f)
+pub fronts_same : (xs ys us vs : List Share) (x0 y0 x y : Share) → x0 ≡ slice_index_or xs 0 x0 → y0 ≡ slice_index_or ys 0 y0 → monomial_cmp x0.monomial y0.monomial ≡ Equal → xs ≡ x ∷ us → ys ≡ y ∷ vs → x.monomial ≡ y.monomial
+fronts_same xs ys us vs x0 y0 x y i j o e f =
+    sym (ap (λ (u : Share). u.monomial) (front_is xs us x0 x i e)) ∙ monomial_cmp-IsAntisymmetric x0.monomial y0.monomial o ∙ ap (λ (u : Share). u.monomial) (front_is ys vs y0 y j f)
 
--- the end of the first list is above the second list, where it is above its end
-pub end_above : (xs ys us : List Share) (x0 y0 x : Share) → x0 ≡ slice_index_or xs (length xs - 1) x0 → y0 ≡ slice_index_or ys (length ys - 1) y0 → monomial_cmp y0.monomial x0.monomial ≡ Less → xs ≡ us ++ x ∷ [] → IsRising ys → AllBelow x.monomial ys
-end_above xs ys us x0 y0 x i j l e r = below_through ys y0 x.monomial j (ap (monomial_cmp y0.monomial) (ap (λ (u : Share). u.monomial) (sym (end_is xs us x0 x i e))) ∙ l) r
+-- the front of the first list is above the second list, where it is above its front
+pub front_above : (xs ys us : List Share) (x0 y0 x : Share) → x0 ≡ slice_index_or xs 0 x0 → y0 ≡ slice_index_or ys 0 y0 → monomial_cmp y0.monomial x0.monomial ≡ Less → xs ≡ x ∷ us → IsDescending ys → AllBelow x.monomial ys
+front_above xs ys us x0 y0 x i j l e d = below_through ys y0 x.monomial j (ap (monomial_cmp y0.monomial) (ap (λ (u : Share). u.monomial) (sym (front_is xs us x0 x i e))) ∙ l) d
 
 pub turned : (m n : List (ℕ × ℕ)) → monomial_cmp m n ≡ Greater → monomial_cmp n m ≡ Less
 turned m n e = monomial_cmp-IsTotalOrder.antisymm n m ∙ ap ordering_reverse e
@@ -238,9 +231,9 @@ no_next xs ys us vs (Some s) n h = absurd (n s refl)
 
 -- shares by halves
 pub IsSorted-short : (xs : List Share) → length xs < 2 → IsSorted xs xs
-IsSorted-short xs h = record { same = λ m. inl (refl, refl); rising = short xs h }
+IsSorted-short xs h = record { same = λ m. inl (refl, refl); falling = short xs h }
   where
-    short : (xs : List Share) → length xs < 2 → IsRising xs
+    short : (xs : List Share) → length xs < 2 → IsDescending xs
     short [] h = tt
     short (x ∷ []) h = (tt, tt)
     short (x ∷ y ∷ xs) h = absurd (omega arith)
@@ -249,5 +242,5 @@ pub IsSorted-halves : (xs front back fs bs zs : List Share) → xs ≡ front ++ 
 IsSorted-halves xs front back fs bs zs e f b m = record {
   same = λ k. agree_through _ _ _ _ _ _ (m.both k) (agree_through _ _ _ _ _ _ (agree_plus _ _ _ _ _ _ _ _ (f.same k) (b.same k))
       (same_agrees _ _ _ _ (sym (ap (λ us. sweight us k) e ∙ sweight-append k front back)) (sym (ap (λ us. ssum us k) e ∙ ssum-append k front back))));
-  rising = m.rising f.rising b.rising;
+  falling = m.falling f.falling b.falling;
 }

@@ -1,5 +1,5 @@
 -- The contributions of one term in order, the contributions that are handed in, and the sum of two polynomials.
-use Rattle.std.specs.Prelude.{reverse, ◌≡◌, ◌<◌, ℕ, zero, suc, ◌+◌, ℤ, pos, ◌+ℤ◌, ◌*ℤ◌, unsigned_abs, List, [], ◌∷◌, ◌++◌, length, slice_index_or, take, refl}
+use Rattle.std.specs.Prelude.{◌≡◌, ◌<◌, ℕ, zero, suc, ◌+◌, ℤ, pos, ◌+ℤ◌, ◌*ℤ◌, unsigned_abs, List, [], ◌∷◌, ◌++◌, length, slice_index_or, take, refl}
 use mathlib.Core.Logic.{inl, inr}
 use Rattle.std.proofs.Common.{arith, sym, ◌∙◌, ap, subst}
 use Rattle.std.proofs.lemmas.Int.{ints}
@@ -16,12 +16,12 @@ use Rattle.sparse_poly.specs.declared.PolyFault.{PolyFault}
 use Rattle.sparse_poly.specs.declared.PolyFault.TheVariants.{Degree, Heavy, OutOfMemory}
 use Rattle.sparse_poly.specs.Polynomials.{coefficient, weight, row}
 use Rattle.sparse_poly.specs.Contributions.{higher, degree_of, IsFalling, IsNoDegree}
-use Rattle.sparse_poly.specs.Standing.{ssum, sweight, Agree, Stands, AllAbove, IsRising, IsDescending, IsAdded, AllMonomials, IsHeavyFault, IsMerged}
+use Rattle.sparse_poly.specs.Standing.{ssum, sweight, Agree, Stands, IsDescending, IsAdded, AllMonomials, IsHeavyFault, IsMerged}
 use Rattle.sparse_poly.proofs.Adding.{take_one, degree_of-append}
 use Rattle.sparse_poly.proofs.Evaluation.{coefficient-append, weight-append}
 use Rattle.sparse_poly.proofs.Sums.{ssum-append, sweight-append}
 use Rattle.sparse_poly.proofs.Standings.{agree_plus, agree_through, same_agrees, Stands-one}
-use Rattle.sparse_poly.proofs.Rising.{all_front, all_back, all_last, all_more, descending_more, IsRising-reverse}
+use Rattle.sparse_poly.proofs.Descending.{AllAbove, all_front, all_back, all_last, all_more, descending_more}
 
 pub all_at : (P : Term → Type 0) (us : List Term) (k : ℕ) (u : Term) → k < length us → u ≡ slice_index_or us k u → AllByRecursion P us → P u
 all_at P [] k u l e h = absurd (omega arith)
@@ -72,9 +72,9 @@ OrderedRow-more t us k u ss zs l e o a h i f = each (o h i f) a
           (ap (monomial_cmp (monomial_times t.monomial m)) at ∙ monomial_cmp-times t.monomial m u.monomial h.powers p own (all_last _ (take k us) u (split m b))));
     }
 
-pub OrderedRow-end : (t : Term) (us : List Term) (k : ℕ) (ss zs : List Share) → OrderedRow t us k ss → zs ≡ reverse ss → IsMonomial t.monomial → AllMonomials us → IsFalling us → IsRising zs
+pub OrderedRow-end : (t : Term) (us : List Term) (k : ℕ) (ss : List Share) → OrderedRow t us k ss → IsMonomial t.monomial → AllMonomials us → IsFalling us → IsDescending ss
 unfolding OrderedRow
-OrderedRow-end t us k ss zs o e h i f = subst IsRising (sym e) (IsRising-reverse ss (o h i f).falling)
+OrderedRow-end t us k ss o h i f = (o h i f).falling
 
 -- contributions that are handed in: some are shares, and the others are left
 pub record Gathered (cs rest : List Term) (ss : List Share) : Type 0 where
@@ -145,10 +145,10 @@ Agree-once w z c a = subst (λ y. Agree w z (unsigned_abs y) y) (once c) a
     once z = omega (arith, ints)
 
 -- the rows of two parts of a list of terms, merged
-pub halves_order : (ts us xs ys : List Term) (fs bs zs : List Share) → ts ≡ xs ++ ys → (AllMonomials xs → AllMonomials us → IsFalling us → IsRising fs) → (AllMonomials ys → AllMonomials us → IsFalling us → IsRising bs) → IsMerged fs bs zs → AllMonomials ts → AllMonomials us → IsFalling us → IsRising zs
+pub halves_order : (ts us xs ys : List Term) (fs bs zs : List Share) → ts ≡ xs ++ ys → (AllMonomials xs → AllMonomials us → IsFalling us → IsDescending fs) → (AllMonomials ys → AllMonomials us → IsFalling us → IsDescending bs) → IsMerged fs bs zs → AllMonomials ts → AllMonomials us → IsFalling us → IsDescending zs
 halves_order ts us xs ys fs bs zs e f b m h i o =
     let both : AllMonomials (xs ++ ys) = subst AllMonomials e h in
-    m.rising (f (all_front _ xs ys both) i o) (b (all_back _ xs ys both) i o)
+    m.falling (f (all_front _ xs ys both) i o) (b (all_back _ xs ys both) i o)
 
 -- the degree of a sum of two polynomials
 pub degree_of-sum : (ps qs : List Term) → AllMonomials ps → AllMonomials qs → degree_of (ps ++ qs) ≡ None

@@ -13,7 +13,7 @@ use Rattle.sparse_poly.specs.Polynomials.{is_of, coefficient, IsSum}
 use Rattle.sparse_poly.specs.Contributions.{IsFalling, IsPoly}
 use Rattle.sparse_poly.proofs.Evaluation.{zero_plus, is_of-own}
 use Rattle.sparse_poly.proofs.Total.{same_term}
-use Rattle.sparse_poly.proofs.Rising.{all_map}
+use Rattle.sparse_poly.proofs.Descending.{all_map}
 
 -- no coefficient at a monomial above all terms
 pub coefficient_above : (m : List (ℕ × ℕ)) (ts : List Term) → AllByRecursion (λ (t : Term). monomial_cmp t.monomial m ≡ Less) ts → coefficient ts m ≡ pos 0

@@ -1,4 +1,4 @@
--- The polynomial of a rising list of shares: what the loop over its shares keeps.
+-- The polynomial of a falling list of shares: what the loop over its shares keeps.
 use Rattle.std.specs.Prelude.{◌≡◌, ◌≢◌, ◌<◌, ◌≤◌, ℕ, ◌+◌, Bool, true, false, if◌then◌else◌, ℤ, pos, unsigned_abs, ◌+ℤ◌, List, [], ◌∷◌, ◌++◌, refl, nat_lt}
 use Rattle.std.proofs.Common.{arith, sym, ◌∙◌, ap, subst, FitsSigned, to_z, of_z}
 use Rattle.std.proofs.lemmas.Int.{ints, to_z-of_z}
@@ -15,10 +15,9 @@ use Rattle.sparse_poly.specs.declared.Term.{Term}
 use Rattle.sparse_poly.specs.declared.entry.Share.{Share}
 use Rattle.sparse_poly.specs.Polynomials.{coefficient}
 use Rattle.sparse_poly.specs.Contributions.{max_coeff, IsFalling, IsPoly}
-use Rattle.sparse_poly.specs.Standing.{ssum, sweight, AllBelow, IsRising, IsLightSum, IsHeaviestShare}
+use Rattle.sparse_poly.specs.Standing.{ssum, sweight, AllBelow, IsDescending, IsLightSum, IsHeaviestShare}
 use Rattle.sparse_poly.proofs.Evaluation.{zero_plus, coefficient-append}
-use Rattle.sparse_poly.proofs.Sums.{ssum-append, sweight-append}
-use Rattle.sparse_poly.proofs.Rising.{all_front, all_last, all_more, all_map, rising_front, rising_last}
+use Rattle.sparse_poly.proofs.Descending.{all_more, all_map, below_more}
 
 none_more : (n : ℕ) → 0 + n ≡ n
 none_more n = omega arith
@@ -47,16 +46,16 @@ not_more n m h = elim (nat_lt m n) as (λ b. nat_lt m n ≡ b → n ≤ m) [ tru
 
 -- the shares xs of ds are left, and out is the polynomial of the others
 pub record Squeezed (ds xs : List Share) (out : List Term) : Type 0 where
-  pub rising : IsRising xs
+  pub descending : IsDescending xs
   pub sums : (k : List (ℕ × ℕ)) → ssum ds k ≡ ssum xs k +ℤ coefficient out k
   pub parts : (k : List (ℕ × ℕ)) → sweight xs k ≤ sweight ds k
   pub light : (k : List (ℕ × ℕ)) → max_coeff < sweight ds k → sweight xs k ≡ sweight ds k
   pub above : AllByRecursion (λ (t : Term). AllBelow t.monomial xs) out
   pub poly : IsPoly out
 
-pub Squeezed-start : (ds : List Share) → IsRising ds → Squeezed ds ds []
+pub Squeezed-start : (ds : List Share) → IsDescending ds → Squeezed ds ds []
 Squeezed-start ds r = record {
-  rising = r;
+  descending = r;
   sums = λ k. sym (zero_right (ssum ds k));
   parts = λ k. omega arith;
   light = λ k h. refl;
@@ -69,7 +68,7 @@ Squeezed-start ds r = record {
 
 -- what is known once a light share went
 record After (ds ys : List Share) (out : List Term) (s : Share) : Type 0 where
-  rising : IsRising ys
+  descending : IsDescending ys
   low : AllBelow s.monomial ys
   sums : (k : List (ℕ × ℕ)) → ssum ds k ≡ (ssum ys k +ℤ (if is_eq (monomial_cmp k s.monomial) then s.sum else pos 0)) +ℤ coefficient out k
   parts : (k : List (ℕ × ℕ)) → sweight ys k ≤ sweight ds k
@@ -77,41 +76,39 @@ record After (ds ys : List Share) (out : List Term) (s : Share) : Type 0 where
   above : AllByRecursion (λ (t : Term). AllBelow t.monomial ys) out
   above_own : AllByRecursion (λ (t : Term). monomial_cmp s.monomial t.monomial ≡ Less) out
 
-After-light : (ds ys : List Share) (out : List Term) (s : Share) → Squeezed ds (ys ++ s ∷ []) out → s.weight ≤ max_coeff → After ds ys out s
-After-light ds ys out s q l =
-    let low = rising_last ys s q.rising in
-    record {
-      rising = rising_front ys (s ∷ []) q.rising;
-      low = low;
-      sums = λ k. q.sums k ∙ ap (λ z. z +ℤ coefficient out k) (ssum-append k ys (s ∷ []) ∙ ap (λ z. ssum ys k +ℤ z) (one_sum (if is_eq (monomial_cmp k s.monomial) then s.sum else pos 0)));
-      parts = λ k. less_part (sweight ys k) _ _ _ (sweight-append k ys (s ∷ [])) (q.parts k);
-      light = λ k h. light_step k (is_eq (monomial_cmp k s.monomial)) refl h (q.light k h);
-      above = all_map (λ (t : Term). AllBelow t.monomial (ys ++ s ∷ [])) (λ (t : Term). AllBelow t.monomial ys) out (λ t h. all_front _ ys (s ∷ []) h) q.above;
-      above_own = all_map (λ (t : Term). AllBelow t.monomial (ys ++ s ∷ [])) (λ (t : Term). monomial_cmp s.monomial t.monomial ≡ Less) out (λ t h. all_last _ ys s h) q.above;
-    }
+After-light : (ds ys : List Share) (out : List Term) (s : Share) → Squeezed ds (s ∷ ys) out → s.weight ≤ max_coeff → After ds ys out s
+After-light ds ys out s q l = record {
+  descending = q.descending.1;
+  low = q.descending.0;
+  sums = λ k. q.sums k ∙ ap (λ z. z +ℤ coefficient out k) (swap (if is_eq (monomial_cmp k s.monomial) then s.sum else pos 0) (ssum ys k));
+  parts = λ k. less_part (if is_eq (monomial_cmp k s.monomial) then s.weight else 0) (sweight ys k) (sweight ds k) (q.parts k);
+  light = λ k h. light_step k (is_eq (monomial_cmp k s.monomial)) refl h (q.light k h);
+  above = all_map (λ (t : Term). AllBelow t.monomial (s ∷ ys)) (λ (t : Term). AllBelow t.monomial ys) out (λ t h. h.1) q.above;
+  above_own = all_map (λ (t : Term). AllBelow t.monomial (s ∷ ys)) (λ (t : Term). monomial_cmp s.monomial t.monomial ≡ Less) out (λ t h. h.0) q.above;
+}
   where
-    one_sum : (z : ℤ) → z +ℤ pos 0 ≡ z
-    one_sum z = omega (arith, ints)
+    swap : (a b : ℤ) → a +ℤ b ≡ b +ℤ a
+    swap a b = omega (arith, ints)
 
-    less_part : (a b c d : ℕ) → c ≡ a + b → c ≤ d → a ≤ d
-    less_part a b c d e h = omega arith
+    less_part : (a b c : ℕ) → a + b ≤ c → b ≤ c
+    less_part a b c h = omega arith
 
-    light_step : (k : List (ℕ × ℕ)) (b : Bool) → is_eq (monomial_cmp k s.monomial) ≡ b → max_coeff < sweight ds k → sweight (ys ++ s ∷ []) k ≡ sweight ds k → sweight ys k ≡ sweight ds k
+    light_step : (k : List (ℕ × ℕ)) (b : Bool) → is_eq (monomial_cmp k s.monomial) ≡ b → max_coeff < sweight ds k → sweight (s ∷ ys) k ≡ sweight ds k → sweight ys k ≡ sweight ds k
     light_step k true e h i =
         let same : s.monomial ≡ k = sym (monomial_cmp-IsAntisymmetric k s.monomial (tied _ e)) in
-        let gone : sweight ys k ≡ 0 = (below_zero k ys (subst (λ m. AllBelow m ys) same (rising_last ys s q.rising))).1 in
-        let whole : sweight (ys ++ s ∷ []) k ≡ sweight ys k + (s.weight + 0) = sweight-append k ys (s ∷ []) ∙ ap (λ c. sweight ys k + ((if c then s.weight else 0) + 0)) e in
+        let gone : sweight ys k ≡ 0 = (below_zero k ys (subst (λ m. AllBelow m ys) same q.descending.0)).1 in
+        let whole : sweight (s ∷ ys) k ≡ s.weight + sweight ys k = ap (λ c. (if c then s.weight else 0) + sweight ys k) e in
         absurd (omega arith)
     light_step k false e h i =
-        let whole : sweight (ys ++ s ∷ []) k ≡ sweight ys k + (0 + 0) = sweight-append k ys (s ∷ []) ∙ ap (λ c. sweight ys k + ((if c then s.weight else 0) + 0)) e in
+        let whole : sweight (s ∷ ys) k ≡ 0 + sweight ys k = ap (λ c. (if c then s.weight else 0) + sweight ys k) e in
         omega arith
 
 -- a light share that adds up to zero
-pub Squeezed-dropped : (ds ys : List Share) (out : List Term) (s : Share) → Squeezed ds (ys ++ s ∷ []) out → s.weight ≤ max_coeff → s.sum ≡ pos 0 → Squeezed ds ys out
+pub Squeezed-dropped : (ds ys : List Share) (out : List Term) (s : Share) → Squeezed ds (s ∷ ys) out → s.weight ≤ max_coeff → s.sum ≡ pos 0 → Squeezed ds ys out
 Squeezed-dropped ds ys out s q l z =
     let a = After-light ds ys out s q l in
     record {
-      rising = a.rising;
+      descending = a.descending;
       sums = λ k. a.sums k ∙ ap (λ y. (ssum ys k +ℤ y) +ℤ coefficient out k) (ap (λ y. if is_eq (monomial_cmp k s.monomial) then y else pos 0) z ∙ either (is_eq (monomial_cmp k s.monomial))) ∙ ap (λ y. y +ℤ coefficient out k) (zero_right (ssum ys k));
       parts = a.parts;
       light = a.light;
@@ -131,12 +128,12 @@ falling_more [] t f a = (tt, tt)
 falling_more (x ∷ xs) t f a = (all_more (λ (u : Term). monomial_cmp u.monomial x.monomial ≡ Less) xs t f.0 a.0, falling_more xs t f.1 a.1)
 
 -- a light share that does not
-pub Squeezed-pushed : (ds ys : List Share) (out : List Term) (s : Share) → Squeezed ds (ys ++ s ∷ []) out → s.weight ≤ max_coeff → s.sum ≢ pos 0 → IsMonomial s.monomial → Squeezed ds ys (out ++ (let t : Term = record { monomial = s.monomial; coeff = s.sum } in t) ∷ [])
+pub Squeezed-pushed : (ds ys : List Share) (out : List Term) (s : Share) → Squeezed ds (s ∷ ys) out → s.weight ≤ max_coeff → s.sum ≢ pos 0 → IsMonomial s.monomial → Squeezed ds ys (out ++ (let t : Term = record { monomial = s.monomial; coeff = s.sum } in t) ∷ [])
 Squeezed-pushed ds ys out s q l z w =
     let a = After-light ds ys out s q l in
     let t : Term = record { monomial = s.monomial; coeff = s.sum } in
     record {
-      rising = a.rising;
+      descending = a.descending;
       sums = λ k. a.sums k ∙ moved (ssum ys k) (if is_eq (monomial_cmp k s.monomial) then s.sum else pos 0) (coefficient out k)
           ∙ ap (λ y. ssum ys k +ℤ y) (sym (coefficient-append k out (t ∷ [])));
       parts = a.parts;
@@ -156,20 +153,16 @@ Squeezed-pushed ds ys out s q l z w =
     within : unsigned_abs s.sum ≤ s.weight → unsigned_abs s.sum ≤ max_coeff
     within h = omega arith
 
--- a monomial above the greatest share
-apart_from : (k m : List (ℕ × ℕ)) (xs : List Share) (s : Share) → monomial_cmp s.monomial k ≡ Less → AllBelow s.monomial xs → AllBelow k (xs ++ s ∷ [])
-apart_from k m xs s l b = all_more (λ (x : Share). monomial_cmp x.monomial k ≡ Less) xs s (all_map (λ (x : Share). monomial_cmp x.monomial s.monomial ≡ Less) (λ (x : Share). monomial_cmp x.monomial k ≡ Less) xs (λ x h. monomial_cmp-IsTotalOrder.trans x.monomial s.monomial k h l) b) l
-
-pub Squeezed-heavy : (ds ys : List Share) (out : List Term) (s : Share) → Squeezed ds (ys ++ s ∷ []) out → max_coeff < s.weight → IsHeaviestShare ds s.monomial
+pub Squeezed-heavy : (ds ys : List Share) (out : List Term) (s : Share) → Squeezed ds (s ∷ ys) out → max_coeff < s.weight → IsHeaviestShare ds s.monomial
 Squeezed-heavy ds ys out s q h = record {
-  heavy = more max_coeff s.weight (sweight ys s.monomial) (sweight (ys ++ s ∷ []) s.monomial) (sweight ds s.monomial) h own (q.parts s.monomial);
-  greatest = λ k l. not_more (sweight ds k) max_coeff (λ g. none_there (sweight (ys ++ s ∷ []) k) (sweight ds k) max_coeff g (q.light k g) (below_zero k (ys ++ s ∷ []) (apart_from k k ys s l (rising_last ys s q.rising))).1);
+  heavy = more max_coeff s.weight (sweight ys s.monomial) (sweight (s ∷ ys) s.monomial) (sweight ds s.monomial) h own (q.parts s.monomial);
+  greatest = λ k l. not_more (sweight ds k) max_coeff (λ g. none_there (sweight (s ∷ ys) k) (sweight ds k) max_coeff g (q.light k g) (below_zero k (s ∷ ys) (l, below_more s.monomial k ys l q.descending.0)).1);
 }
   where
-    own : sweight (ys ++ s ∷ []) s.monomial ≡ sweight ys s.monomial + (s.weight + 0)
-    own = sweight-append s.monomial ys (s ∷ []) ∙ ap (λ b. sweight ys s.monomial + ((if b then s.weight else 0) + 0)) (ap is_eq (tied_itself monomial_cmp-IsTotalOrder s.monomial))
+    own : sweight (s ∷ ys) s.monomial ≡ s.weight + sweight ys s.monomial
+    own = ap (λ b. (if b then s.weight else 0) + sweight ys s.monomial) (ap is_eq (tied_itself monomial_cmp-IsTotalOrder s.monomial))
 
-    more : (M w a b c : ℕ) → M < w → b ≡ a + (w + 0) → b ≤ c → M < c
+    more : (M w a b c : ℕ) → M < w → b ≡ w + a → b ≤ c → M < c
     more M w a b c h e l = omega arith
 
     none_there : (a b M : ℕ) → M < b → a ≡ b → a ≡ 0 → ⊥

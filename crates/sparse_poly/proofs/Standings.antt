@@ -3,12 +3,11 @@ use Rattle.std.specs.Prelude.{◌≡◌, ◌<◌, ◌≤◌, ℕ, ◌+◌, Bool,
 use mathlib.Core.Logic.{inl, inr}
 use Rattle.std.proofs.Common.{arith, sym, ◌∙◌, ap, subst}
 use Rattle.std.specs.Ordering.{is_eq}
-use Rattle.std.specs.List.Sorted.{IsPermutation}
 use Rattle.monomial.specs.Monomials.{monomial_cmp, monomial_times}
 use Rattle.sparse_poly.specs.declared.entry.Share.{Share}
 use Rattle.sparse_poly.specs.Standing.{Agree, Stands, StandsForBoth, IsLightSum, IsHeavyFault}
 use Rattle.sparse_poly.proofs.Evaluation.{coefficient-append, weight-append}
-use Rattle.sparse_poly.proofs.Sums.{ssum-append, sweight-append, ssum-permuted, sweight-permuted}
+use Rattle.sparse_poly.proofs.Sums.{ssum-append, sweight-append}
 use Rattle.std.proofs.lemmas.Bool.Decides.{nat_tests}
 use Rattle.std.specs.declared.option.Option.{Option}
 use Rattle.std.specs.declared.option.Option.TheVariants.{None}
@@ -100,9 +99,6 @@ pub Stands-push : (ss : List Share) (s : Share) (cs : List Term) (t : Term) → 
 Stands-push ss s cs t a b m =
     agree_through _ _ _ _ _ _ (same_agrees _ _ _ _ (sweight-append m ss (s ∷ [])) (ssum-append m ss (s ∷ []))) (agree_through _ _ _ _ _ _ (agree_plus _ _ _ _ _ _ _ _ (a m) (b m)) (same_agrees _ _ _ _ (sym (weight-append m cs (t ∷ []))) (sym (coefficient-append m cs (t ∷ [])))))
 
-pub Stands-permuted : (ss us : List Share) (cs : List Term) → IsPermutation ss us → Stands ss cs → Stands us cs
-Stands-permuted ss us cs p a m = agree_through _ _ _ _ _ _ (same_agrees _ _ _ _ (sweight-permuted m ss us p) (ssum-permuted m ss us p)) (a m)
-
 row_one : (b : Bool) (t u : Term) → signed_row b t (u ∷ []) ≡ record { monomial = monomial_times t.monomial u.monomial; coeff = signed b (t.coeff *ℤ u.coeff) } ∷ []
 row_one false t u = refl
 row_one true t u = refl
@@ -129,10 +125,10 @@ Rowed-more b t us k u old now new ss zs l e r h f =
       sums = λ n. rw row (f n (signed_row b t (take k us)) (r.sums (none_before now (degree_of (signed_row b t (u ∷ []))) (sym h ∙ n))));
     }
 
-pub Rowed-end : (b : Bool) (t : Term) (us : List Term) (k : ℕ) (old now : Option ℕ) (ss zs : List Share) → k ≡ length us → Rowed b t us k old now ss → IsPermutation ss zs → (now ≡ higher old (degree_of (signed_row b t us))) × (now ≡ None → Stands zs (signed_row b t us))
-Rowed-end b t us k old now ss zs e r p =
+pub Rowed-end : (b : Bool) (t : Term) (us : List Term) (k : ℕ) (old now : Option ℕ) (ss : List Share) → k ≡ length us → Rowed b t us k old now ss → (now ≡ higher old (degree_of (signed_row b t us))) × (now ≡ None → Stands ss (signed_row b t us))
+Rowed-end b t us k old now ss e r =
     let row : signed_row b t (take k us) ≡ signed_row b t us = ap (signed_row b t) (take_whole us k e) in
-    (r.high ∙ ap (λ cs. higher old (degree_of cs)) row, λ n. Stands-permuted ss zs (signed_row b t us) p (rw row at (r.sums n)))
+    (r.high ∙ ap (λ cs. higher old (degree_of cs)) row, λ n. rw row at (r.sums n))
 
 -- the halves of a product
 pub halves_high : (b : Bool) (ts us xs ys : List Term) (old mid new : Option ℕ) → ts ≡ xs ++ ys → mid ≡ higher old (degree_of (signed_products b xs us)) → new ≡ higher mid (degree_of (signed_products b ys us)) → new ≡ higher old (degree_of (signed_products b ts us))

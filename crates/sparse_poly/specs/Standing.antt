@@ -8,8 +8,8 @@ use Rattle.std.specs.declared.option.Option.TheVariants.{None, Some}
 use Rattle.monomial.specs.Monomials.{monomial_cmp, monomial_times, IsMonomial}
 use Rattle.sparse_poly.specs.declared.entry.Share.{Share}
 use Rattle.sparse_poly.specs.declared.Term.{Term}
-use Rattle.sparse_poly.specs.declared.merging.End.{End}
-use Rattle.sparse_poly.specs.declared.merging.End.TheVariants.{Neither, First, Second, Both}
+use Rattle.sparse_poly.specs.declared.merging.Front.{Front}
+use Rattle.sparse_poly.specs.declared.merging.Front.TheVariants.{Neither, First, Second, Both}
 use Rattle.sparse_poly.specs.Polynomials.{coefficient, weight}
 use Rattle.sparse_poly.specs.Contributions.{max_coeff, IsPoly}
 use Rattle.sparse_poly.specs.declared.PolyFault.{PolyFault}
@@ -36,27 +36,20 @@ Stands ss cs = (m : List (ℕ × ℕ)) → Agree (sweight ss m) (ssum ss m) (wei
 abbrev pub StandsForBoth : List Share → List Share → List Share → Type 0
 StandsForBoth ss xs ys = (m : List (ℕ × ℕ)) → Agree (sweight ss m) (ssum ss m) (sweight xs m + sweight ys m) (ssum xs m +ℤ ssum ys m)
 
--- each share is below a monomial, and each is above one
+-- each share is below a monomial
 abbrev pub AllBelow : List (ℕ × ℕ) → List Share → Type 0
 AllBelow m xs = AllByRecursion (λ (x : Share). monomial_cmp x.monomial m ≡ Less) xs
 
-abbrev pub AllAbove : List (ℕ × ℕ) → List Share → Type 0
-AllAbove m xs = AllByRecursion (λ (x : Share). monomial_cmp m x.monomial ≡ Less) xs
-
--- the monomials rise strictly, and they fall strictly
-abbrev pub IsRising : List Share → Type 0
-IsRising [] = Unit {0}
-IsRising (x ∷ xs) = AllAbove x.monomial xs × IsRising xs
-
+-- the monomials fall strictly
 abbrev pub IsDescending : List Share → Type 0
 IsDescending [] = Unit {0}
 IsDescending (x ∷ xs) = AllBelow x.monomial xs × IsDescending xs
 
--- what is left of two rising lists, once their greatest share s was taken
+-- what is left of two falling lists, once their greatest share s was taken
 pub record IsTaken (xs ys us vs : List Share) (s : Share) : Type 0 where
   pub shorter : length us + length vs < length xs + length ys
   pub sums : (m : List (ℕ × ℕ)) → Agree (sweight (s ∷ []) m + (sweight us m + sweight vs m)) (ssum (s ∷ []) m +ℤ (ssum us m +ℤ ssum vs m)) (sweight xs m + sweight ys m) (ssum xs m +ℤ ssum ys m)
-  pub rising : IsRising xs → IsRising ys → IsRising us × IsRising vs × AllBelow s.monomial us × AllBelow s.monomial vs
+  pub falling : IsDescending xs → IsDescending ys → IsDescending us × IsDescending vs × AllBelow s.monomial us × AllBelow s.monomial vs
   pub bounded : (k : List (ℕ × ℕ)) → AllBelow k xs → AllBelow k ys → AllBelow k us × AllBelow k vs × (monomial_cmp s.monomial k ≡ Less)
 
 -- the next share of two lists
@@ -64,22 +57,22 @@ abbrev pub IsNext : List Share → List Share → List Share → List Share → 
 IsNext xs ys us vs (Some s) = IsTaken xs ys us vs s
 IsNext xs ys us vs None = (xs ≡ []) × (ys ≡ [])
 
--- which of two lists has the greatest share at its end
-abbrev pub IsEnd : List Share → List Share → End → Type 0
-IsEnd xs ys Neither = (xs ≡ []) × (ys ≡ [])
-IsEnd xs ys First = (0 < length xs) × ((us : List Share) (x : Share) → xs ≡ us ++ x ∷ [] → IsRising ys → AllBelow x.monomial ys)
-IsEnd xs ys Second = (0 < length ys) × ((vs : List Share) (y : Share) → ys ≡ vs ++ y ∷ [] → IsRising xs → AllBelow y.monomial xs)
-IsEnd xs ys Both = (0 < length xs) × (0 < length ys) × ((us vs : List Share) (x y : Share) → xs ≡ us ++ x ∷ [] → ys ≡ vs ++ y ∷ [] → x.monomial ≡ y.monomial)
+-- which of two lists has the greatest share at its front
+abbrev pub IsFront : List Share → List Share → Front → Type 0
+IsFront xs ys Neither = (xs ≡ []) × (ys ≡ [])
+IsFront xs ys First = (0 < length xs) × ((us : List Share) (x : Share) → xs ≡ x ∷ us → IsDescending ys → AllBelow x.monomial ys)
+IsFront xs ys Second = (0 < length ys) × ((vs : List Share) (y : Share) → ys ≡ y ∷ vs → IsDescending xs → AllBelow y.monomial xs)
+IsFront xs ys Both = (0 < length xs) × (0 < length ys) × ((us vs : List Share) (x y : Share) → xs ≡ x ∷ us → ys ≡ y ∷ vs → x.monomial ≡ y.monomial)
 
--- rising shares that add up to the same sums
+-- falling shares that add up to the same sums
 pub record IsSorted (xs ss : List Share) : Type 0 where
   pub same : (m : List (ℕ × ℕ)) → Agree (sweight ss m) (ssum ss m) (sweight xs m) (ssum xs m)
-  pub rising : IsRising ss
+  pub falling : IsDescending ss
 
--- rising shares that add up to the sums of two lists
+-- falling shares that add up to the sums of two lists
 pub record IsMerged (xs ys ss : List Share) : Type 0 where
   pub both : StandsForBoth ss xs ys
-  pub rising : IsRising xs → IsRising ys → IsRising ss
+  pub falling : IsDescending xs → IsDescending ys → IsDescending ss
 
 -- each monomial of a polynomial's terms is one
 abbrev pub AllMonomials : List Term → Type 0

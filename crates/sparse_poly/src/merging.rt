@@ -1,10 +1,11 @@
-//! The merge of two lists of shares that rise by their monomials, with early sums.
+//! The merge of two lists of shares that fall by their monomials, with early sums.
 ghost use Rattle.std.specs.Prelude.{◌≡◌, ◌+◌, ◌+ℤ◌, List, [], ◌∷◌, ◌++◌, IfOk};
-ghost use Rattle.sparse_poly.specs.Standing.{Agree, IsNext, IsEnd, IsMerged, IsSorted};
+ghost use Rattle.sparse_poly.specs.Standing.{Agree, IsNext, IsFront, IsMerged, IsSorted};
 
 use crate::entry::Share;
 use std::alloc::AllocError;
 use std::cmp::Ordering;
+use std::collections::VecDeque;
 
 // Two shares of one monomial as one.
 fn joined(x: Share, y: Share) -> Share
@@ -26,24 +27,23 @@ fn joined(x: Share, y: Share) -> Share
     }
 }
 
-/// Two rising lists as one.
+/// Two falling lists as one.
 pub fn merge(first: Vec<Share>, second: Vec<Share>) -> Result<Vec<Share>, AllocError>
     ensures { IfOk result (λ v. IsMerged first.items second.items v.items) }
 {
-    let mut first = first;
-    let mut second = second;
     let mut shares = Vec::with_capacity(
         *first.allocator(),
         first.len().saturating_add(second.len()),
     )?;
+    let mut first = VecDeque::from(first);
+    let mut second = VecDeque::from(second);
     'both: while let Some(share) = next_share(&mut first, &mut second) {
-        shares.push(share)?;
+        shares.push_reserved(share);
     }
-    shares.reverse();
     Ok(shares)
 }
 
-/// Shares in any order as a rising list, by halves.
+/// Shares in any order as a falling list, by halves.
 pub fn sorted(shares: Vec<Share>) -> Result<Vec<Share>, AllocError>
     ensures { IfOk result (λ v. IsSorted shares.items v.items) }
 {
@@ -61,53 +61,53 @@ pub fn sorted(shares: Vec<Share>) -> Result<Vec<Share>, AllocError>
     }
 }
 
-// Which of two rising lists has the greatest share at its end.
-enum End {
+// Which of two falling lists has the greatest share at its front.
+enum Front {
     Neither,
     First,
     Second,
     Both,
 }
 
-fn greater_end(first: &[Share], second: &[Share]) -> End
-    ensures { IsEnd first.now second.now result }
+fn greater_front(first: &VecDeque<Share>, second: &VecDeque<Share>) -> Front
+    ensures { IsFront first.now.items second.now.items result }
 {
-    let Some(x) = first.last() else {
+    let Some(x) = first.front() else {
         return if second.is_empty() {
-            End::Neither
+            Front::Neither
         } else {
-            End::Second
+            Front::Second
         };
     };
-    let Some(y) = second.last() else {
-        return End::First;
+    let Some(y) = second.front() else {
+        return Front::First;
     };
     match x.monomial.order(&y.monomial) {
-        Ordering::Less => End::Second,
-        Ordering::Equal => End::Both,
-        Ordering::Greater => End::First,
+        Ordering::Less => Front::Second,
+        Ordering::Equal => Front::Both,
+        Ordering::Greater => Front::First,
     }
 }
 
-// Takes the greatest share of two rising lists.
-fn next_share(first: &mut Vec<Share>, second: &mut Vec<Share>) -> Option<Share>
+// Takes the greatest share of two falling lists.
+fn next_share(first: &mut VecDeque<Share>, second: &mut VecDeque<Share>) -> Option<Share>
     ensures { IsNext first.old.items second.old.items first.new.items second.new.items result }
 {
-    match greater_end(first, second) {
-        End::Neither => None,
-        End::First => match first.pop() {
+    match greater_front(first, second) {
+        Front::Neither => None,
+        Front::First => match first.pop_front() {
             Some(x) => Some(x),
             None => None,
         },
-        End::Second => match second.pop() {
+        Front::Second => match second.pop_front() {
             Some(y) => Some(y),
             None => None,
         },
-        End::Both => {
-            let Some(x) = first.pop() else {
+        Front::Both => {
+            let Some(x) = first.pop_front() else {
                 return None;
             };
-            let Some(y) = second.pop() else {
+            let Some(y) = second.pop_front() else {
                 return None;
             };
             Some(joined(x, y))

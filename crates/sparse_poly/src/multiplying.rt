@@ -1,10 +1,10 @@
 //! Products of polynomials as shares.
-ghost use Rattle.std.specs.Prelude.{◌≡◌, ◌*ℤ◌, unsigned_abs, List, [], ◌∷◌, ◌++◌, OnOk, IfOk, IfErr, MatchResult};
+ghost use Rattle.std.specs.Prelude.{◌≡◌, ◌≤◌, ◌*ℤ◌, unsigned_abs, List, [], ◌∷◌, ◌++◌, OnOk, IfOk, IfErr, MatchResult};
 ghost use Rattle.std.specs.declared.option.Option.TheVariants.{None, Some};
 ghost use Rattle.monomial.specs.Monomials.{IsMonomial};
-ghost use Rattle.sparse_poly.specs.Contributions.{signed, kept, signed_row, signed_products, higher, degree_of, contributions, IsFalling, IsPoly, IsResult, IsFault, IsNoDegree};
+ghost use Rattle.sparse_poly.specs.Contributions.{max_coeff, signed, kept, signed_row, signed_products, higher, degree_of, contributions, IsFalling, IsPoly, IsResult, IsFault, IsNoDegree};
 ghost use Rattle.sparse_poly.specs.Polynomials.{products};
-ghost use Rattle.sparse_poly.specs.Standing.{Agree, Stands, AllMonomials, IsRising, IsAdded};
+ghost use Rattle.sparse_poly.specs.Standing.{Agree, Stands, AllMonomials, IsDescending, IsAdded};
 
 use crate::entry::Share;
 use crate::merging::{merge, sorted};
@@ -90,7 +90,7 @@ pub fn summed(alloc: Global, terms: Vec<Term>) -> Result<Vec<Term>, PolyFault>
 fn copied(alloc: Global, terms: &[Term]) -> Result<Vec<Share>, AllocError>
     requires { IsPoly terms.now }
     ensures sums { IfOk result (λ v. Stands v.items terms.now) }
-    ensures order { IfOk result (λ v. IsRising v.items) }
+    ensures order { IfOk result (λ v. IsDescending v.items) }
 {
     let one = Term {
         monomial: Monomial::one(alloc),
@@ -121,6 +121,9 @@ fn gathered(alloc: Global, terms: Vec<Term>) -> Result<Vec<Share>, AllocError>
 fn kept_product(x: i128, y: i128, minus: bool) -> i128
     ensures { result ≡ kept (signed minus (x *ℤ y)) }
 {
+    if let (Ok(x), Ok(y)) = (i64::try_from(x), i64::try_from(y)) {
+        return small_product(x, y, minus);
+    }
     match x.checked_mul(y) {
         Some(z) => {
             if z == i128::MIN {
@@ -130,6 +133,15 @@ fn kept_product(x: i128, y: i128, minus: bool) -> i128
         }
         None => i128::MIN,
     }
+}
+
+// The product of two coefficients of 64 bits with its sign.
+fn small_product(x: i64, y: i64, minus: bool) -> i128
+    ensures value { result ≡ signed minus (x *ℤ y) }
+    ensures bound { unsigned_abs result ≤ max_coeff }
+{
+    let z = i128::from(x) * i128::from(y);
+    if minus { -z } else { z }
 }
 
 // The share of one contribution.
@@ -179,7 +191,7 @@ fn push_share(
     Ok(())
 }
 
-// The contributions of one term, in rising order where the terms fall.
+// The contributions of one term, in falling order where the terms fall.
 fn row_of(
     alloc: Global,
     t: &Term,
@@ -189,13 +201,12 @@ fn row_of(
 ) -> Result<Vec<Share>, AllocError>
     ensures high { OnOk result (high.new ≡ higher high.old (degree_of (signed_row minus t.now us.now))) }
     ensures sums { IfOk result (λ v. high.new ≡ None → Stands v.items (signed_row minus t.now us.now)) }
-    ensures order { IfOk result (λ v. IsMonomial t.now.monomial → AllMonomials us.now → IsFalling us.now → IsRising v.items) }
+    ensures order { IfOk result (λ v. IsMonomial t.now.monomial → AllMonomials us.now → IsFalling us.now → IsDescending v.items) }
 {
     let mut shares = Vec::with_capacity(alloc, us.len())?;
     for u in us {
         push_share(t, u, minus, &mut shares, high)?;
     }
-    shares.reverse();
     Ok(shares)
 }
 
@@ -209,7 +220,7 @@ fn part(
 ) -> Result<Vec<Share>, AllocError>
     ensures high { OnOk result (high.new ≡ higher high.old (degree_of (signed_products minus ts.now us.now))) }
     ensures sums { IfOk result (λ v. high.new ≡ None → Stands v.items (signed_products minus ts.now us.now)) }
-    ensures order { IfOk result (λ v. AllMonomials ts.now → AllMonomials us.now → IsFalling us.now → IsRising v.items) }
+    ensures order { IfOk result (λ v. AllMonomials ts.now → AllMonomials us.now → IsFalling us.now → IsDescending v.items) }
 {
     let n = ts.len();
     if n == 0 {

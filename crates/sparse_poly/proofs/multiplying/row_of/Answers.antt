@@ -13,10 +13,10 @@ loop-u-preserved c = record {
 }
 
 pub returns-clause-sums : goal.returns-clause-sums
-returns-clause-sums c = (Rowed-end c.args.minus c.args.t.now c.args.us.now c.loop-u.u-index _ _ _ _ (omega arith) c.loop-u.invariant.rowed c.reverse.ensures.permutation).1
+returns-clause-sums c = (Rowed-end c.args.minus c.args.t.now c.args.us.now c.loop-u.u-index _ _ _ (omega arith) c.loop-u.invariant.rowed).1
 
 pub returns-clause-high : goal.returns-clause-high
-returns-clause-high c = (Rowed-end c.args.minus c.args.t.now c.args.us.now c.loop-u.u-index _ _ _ _ (omega arith) c.loop-u.invariant.rowed c.reverse.ensures.permutation).0
+returns-clause-high c = (Rowed-end c.args.minus c.args.t.now c.args.us.now c.loop-u.u-index _ _ _ (omega arith) c.loop-u.invariant.rowed).0
 
 pub returns-clause-order : goal.returns-clause-order
-returns-clause-order c = OrderedRow-end c.args.t.now c.args.us.now c.loop-u.u-index c.loop-u.shares.items _ c.loop-u.invariant.order c.reverse.ensures.items
+returns-clause-order c = OrderedRow-end c.args.t.now c.args.us.now c.loop-u.u-index c.loop-u.shares.items c.loop-u.invariant.order

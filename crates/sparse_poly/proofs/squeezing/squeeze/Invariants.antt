@@ -1,9 +1,13 @@
-use Rattle.std.proofs.Common.{length}
+use Rattle.std.proofs.Common.{length, ◌+◌, ◌≤◌}
+use Rattle.std.specs.Vec.{vec_len, vec_capacity}
 use Rattle.sparse_poly.proofs.Squeezes.{Squeezed}
 use Rattle.sparse_poly.proofs.squeezing.squeeze.Given as goal
 
 abbrev pub invariant-shares : goal.invariant-shares
-invariant-shares l = Squeezed l.fn.shares.items l.shares.items l.terms.items
+invariant-shares l = record {
+  squeezed : Squeezed l.fn.shares.items l.shares.items l.terms.items;
+  room : vec_len l.terms + length l.shares.items ≤ vec_capacity l.terms;
+}
 
 abbrev pub decreases-shares : goal.decreases-shares
 decreases-shares l = length l.shares.items
