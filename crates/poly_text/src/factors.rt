@@ -7,39 +7,13 @@ ghost use Rattle.poly_text.specs.Order.{product, AreAtMost};
 use std::alloc::{AllocError, Global};
 use std::cmp::Ordering;
 
-/// From so many factors on, a product is made by halves.
-const MANY: usize = 16;
-
-/// Multiplies a product by a power.
-fn multiply(powers: &mut Vec<(u32, u128)>, variable: u32, exponent: u16) -> Result<(), AllocError>
-    requires { AreAtMost (2 ^ 127) powers.old.items }
-    ensures product { OnOk result (powers.new.items ≡ monomial_times ((variable, exponent) ∷ []) powers.old.items) }
-    ensures bounded { OnOk result ((n : _) → AreAtMost n powers.old.items → AreAtMost (65535 + n) powers.new.items) }
-{
-    let mut place = 0;
-    'place: while place < powers.len() && variable < powers[place].0 {
-        place += 1;
-    }
-    if place < powers.len() && variable == powers[place].0 {
-        let sum = exponent as u128 + powers[place].1;
-        powers[place] = (variable, sum);
-    } else {
-        powers.insert(place, (variable, exponent as u128))?;
-    }
-    Ok(())
-}
-
-/// The product of a few factors in any order.
-fn product_of_few(alloc: Global, powers: &[(u32, u16)]) -> Result<Vec<(u32, u128)>, AllocError>
-    ensures product { IfOk result (λ v. v.items ≡ product powers.now) }
-    ensures bounded { IfOk result (λ v. AreAtMost (65535 * length powers.now) v.items) }
+// The product of one factor.
+fn single(alloc: Global, power: (u32, u16)) -> Result<Vec<(u32, u128)>, AllocError>
+    ensures product { IfOk result (λ v. v.items ≡ power ∷ []) }
+    ensures bounded { IfOk result (λ v. AreAtMost 65535 v.items) }
 {
     let mut product = Vec::new(alloc);
-    let mut at = powers.len();
-    'powers: while at > 0 {
-        at -= 1;
-        multiply(&mut product, powers[at].0, powers[at].1)?;
-    }
+    product.push((power.0, u128::from(power.1)))?;
     Ok(product)
 }
 
@@ -86,11 +60,14 @@ pub(crate) fn product(alloc: Global, powers: &[(u32, u16)]) -> Result<Vec<(u32, 
     ensures product { IfOk result (λ v. v.items ≡ product powers.now) }
     ensures bounded { IfOk result (λ v. AreAtMost (65535 * length powers.now) v.items) }
 {
-    if powers.len() < MANY {
-        return product_of_few(alloc, powers);
+    match powers {
+        [] => Ok(Vec::new(alloc)),
+        [power] => single(alloc, *power),
+        _ => {
+            let (first, second) = powers.split_at(powers.len() / 2);
+            let first = product(alloc, first)?;
+            let second = product(alloc, second)?;
+            times(alloc, &first, &second)
+        }
     }
-    let (first, second) = powers.split_at(powers.len() / 2);
-    let first = product(alloc, first)?;
-    let second = product(alloc, second)?;
-    times(alloc, &first, &second)
 }
