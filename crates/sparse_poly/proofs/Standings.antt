@@ -41,15 +41,15 @@ agree_kept c = elim (nat_le (unsigned_abs c) max_coeff) as (λ b. nat_le (unsign
   | false ↦ λ e. inr (omega arith, above_limit (unsigned_abs c) e)
 ] refl
 
-same_if_light : (w v : ℕ) (z y : ℤ) → Agree w z v y → w ≤ max_coeff → (w ≡ v) × (z ≡ y)
+pub same_if_light : (w v : ℕ) (z y : ℤ) → Agree w z v y → w ≤ max_coeff → (w ≡ v) × (z ≡ y)
 same_if_light w v z y (inl h) l = h
 same_if_light w v z y (inr h) l = absurd (omega (arith, h.0, l))
 
-heavy_if : (w v : ℕ) (z y : ℤ) → Agree w z v y → max_coeff < w → max_coeff < v
+pub heavy_if : (w v : ℕ) (z y : ℤ) → Agree w z v y → max_coeff < w → max_coeff < v
 heavy_if w v z y (inl h) l = omega (arith, h.0, l)
 heavy_if w v z y (inr h) l = h.1
 
-light_if : (w v : ℕ) (z y : ℤ) → Agree w z v y → w ≤ max_coeff → v ≤ max_coeff
+pub light_if : (w v : ℕ) (z y : ℤ) → Agree w z v y → w ≤ max_coeff → v ≤ max_coeff
 light_if w v z y a l = let e = (same_if_light w v z y a l).0 in omega arith
 
 pub IsResult-from_shares : (ss : List Share) (cs p : List Term) → Stands ss cs → degree_of cs ≡ None → IsLightSum ss p → IsResult cs p
@@ -87,6 +87,16 @@ same_agrees a b x y e f = inl (e, f)
 pub Stands-both : (ss xs ys : List Share) (cs ds : List Term) → StandsForBoth ss xs ys → Stands xs cs → Stands ys ds → Stands ss (cs ++ ds)
 Stands-both ss xs ys cs ds b x y m =
     agree_through _ _ _ _ _ _ (b m) (agree_through _ _ _ _ _ _ (agree_plus _ _ _ _ _ _ _ _ (x m) (y m)) (same_agrees _ _ _ _ (sym (weight-append m cs ds)) (sym (coefficient-append m cs ds))))
+
+pub Stands-append : (xs ys : List Share) (cs ds : List Term) → Stands xs cs → Stands ys ds → Stands (xs ++ ys) (cs ++ ds)
+Stands-append xs ys cs ds a b = Stands-both (xs ++ ys) xs ys cs ds (λ m. same_agrees _ _ _ _ (sweight-append m xs ys) (ssum-append m xs ys)) a b
+
+pub Stands-alone : (xs ys : List Share) (cs : List Term) → ys ≡ [] → Stands xs cs → Stands (xs ++ ys) cs
+Stands-alone xs ys cs e a = subst (λ zs. Stands zs cs) (sym (append_nil xs) ∙ ap (λ zs. xs ++ zs) (sym e)) a
+  where
+    append_nil : (xs : List Share) → xs ++ [] ≡ xs
+    append_nil [] = refl
+    append_nil (x ∷ xs) = ap (λ zs. x ∷ zs) (append_nil xs)
 
 pub Stands-one : (s : Share) (t : Term) → s.monomial ≡ t.monomial → Agree s.weight s.sum (unsigned_abs t.coeff) t.coeff → Stands (s ∷ []) (t ∷ [])
 Stands-one s t e a m = agree_plus _ _ _ _ _ _ _ _ (subst (λ n. Agree (if is_eq (monomial_cmp m s.monomial) then s.weight else 0) (if is_eq (monomial_cmp m s.monomial) then s.sum else pos 0) (if is_eq (monomial_cmp m n) then unsigned_abs t.coeff else 0) (if is_eq (monomial_cmp m n) then t.coeff else pos 0)) e (either (is_eq (monomial_cmp m s.monomial)))) (inl (refl, refl))
