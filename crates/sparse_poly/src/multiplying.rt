@@ -45,11 +45,13 @@ pub fn multiplied(alloc: Global, first: &[Term], second: &[Term]) -> Result<Vec<
     requires second_poly { IsPoly second.now }
     ensures { MatchResult result (λ v. IsResult (products first.now second.now) v.items) (IsFault (products first.now second.now)) }
 {
+    let half = first.len() / 2;
     let mut high = None;
-    let shares = part(alloc, first, second, false, &mut high)?;
+    let front = part(alloc, &first[..half], second, false, &mut high)?;
+    let back = part(alloc, &first[half..], second, false, &mut high)?;
     match high {
         Some(var) => Err(PolyFault::Degree { var }),
-        None => match squeeze(shares, Vec::new(alloc)) {
+        None => match squeeze(front, back) {
             Ok(terms) => Ok(terms),
             Err(fault) => Err(fault),
         },
