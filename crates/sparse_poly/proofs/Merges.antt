@@ -187,11 +187,12 @@ pub record Merging (xs ys us vs out : List Share) : Type 0 where
 pub Merging-start : (xs ys : List Share) → Merging xs ys xs ys []
 Merging-start xs ys = record { sums = Sums-start xs ys; falling = λ r s. (r, s, tt, tt) }
 
-low_all : (us vs us' vs' out : List Share) (s : Share) → IsTaken us vs us' vs' s → AllByRecursion (λ (o : Share). AllBelow o.monomial us × AllBelow o.monomial vs) out → AllByRecursion (λ (o : Share). AllBelow o.monomial us' × AllBelow o.monomial vs') out × AllByRecursion (λ (o : Share). monomial_cmp s.monomial o.monomial ≡ Less) out
-low_all us vs us' vs' [] s t h = (tt, tt)
-low_all us vs us' vs' (o ∷ out) s t h =
-    let b = t.bounded o.monomial h.0.0 h.0.1 in
-    let rest = low_all us vs us' vs' out s t h.1 in
+-- what is above both lists is above what is left of them, and above the share that went
+pub low_all : {X : Type 0} → (f : X → List (ℕ × ℕ)) (us vs us' vs' : List Share) (xs : List X) (s : Share) → IsTaken us vs us' vs' s → AllByRecursion (λ (o : X). AllBelow (f o) us × AllBelow (f o) vs) xs → AllByRecursion (λ (o : X). AllBelow (f o) us' × AllBelow (f o) vs') xs × AllByRecursion (λ (o : X). monomial_cmp s.monomial (f o) ≡ Less) xs
+low_all f us vs us' vs' [] s t h = (tt, tt)
+low_all f us vs us' vs' (o ∷ xs) s t h =
+    let b = t.bounded (f o) h.0.0 h.0.1 in
+    let rest = low_all f us vs us' vs' xs s t h.1 in
     (((b.0, b.1), rest.0), (b.2, rest.1))
 
 pub Merging-more : (xs ys us vs us' vs' out : List Share) (s : Share) → Merging xs ys us vs out → IsNext us vs us' vs' (Some s) → Merging xs ys us' vs' (out ++ s ∷ [])
@@ -200,9 +201,13 @@ Merging-more xs ys us vs us' vs' out s g h = record {
   falling = λ r t.
       let old = g.falling r t in
       let new = h.falling old.0 old.1 in
-      let low = low_all us vs us' vs' out s h old.3 in
+      let low = low_all (λ (o : Share). o.monomial) us vs us' vs' out s h old.3 in
       (new.0, new.1, descending_more out s old.2 low.1, all_more (λ (o : Share). AllBelow o.monomial us' × AllBelow o.monomial vs') out s low.0 (new.2, new.3));
 }
+
+pub Merging-agrees : (xs ys us vs out : List Share) → Merging xs ys us vs out → (m : List (ℕ × ℕ)) → Agree (sweight out m + (sweight us m + sweight vs m)) (ssum out m +ℤ (ssum us m +ℤ ssum vs m)) (sweight (xs ++ ys) m) (ssum (xs ++ ys) m)
+unfolding Sums
+Merging-agrees xs ys us vs out g m = agree_through _ _ _ _ _ _ (g.sums m) (same_agrees _ _ _ _ (sym (sweight-append m xs ys)) (sym (ssum-append m xs ys)))
 
 pub Merging-end : (xs ys us vs out : List Share) → Merging xs ys us vs out → (us ≡ []) × (vs ≡ []) → IsMerged xs ys out
 Merging-end xs ys us vs out g ended = record {

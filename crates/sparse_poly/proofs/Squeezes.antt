@@ -1,8 +1,7 @@
--- The polynomial of a falling list of shares: what the loop over its shares keeps.
-use Rattle.std.specs.Prelude.{◌≡◌, ◌≢◌, ◌<◌, ◌≤◌, ℕ, ◌+◌, Bool, true, false, if◌then◌else◌, ℤ, pos, unsigned_abs, ◌+ℤ◌, List, [], ◌∷◌, ◌++◌, refl, nat_lt}
-use Rattle.std.proofs.Common.{arith, sym, ◌∙◌, ap, subst, FitsSigned, to_z, of_z}
+-- The polynomial of two falling lists of shares: what the loop over their shares keeps.
+use Rattle.std.specs.Prelude.{◌≡◌, ◌≢◌, ◌<◌, ◌≤◌, ℕ, ◌+◌, Bool, true, false, if◌then◌else◌, ℤ, pos, unsigned_abs, ◌+ℤ◌, List, [], ◌∷◌, ◌++◌, refl}
+use Rattle.std.proofs.Common.{arith, sym, ◌∙◌, ap, FitsSigned, to_z, of_z}
 use Rattle.std.proofs.lemmas.Int.{ints, to_z-of_z}
-use Rattle.std.proofs.lemmas.Bool.Decides.{nat_tests}
 use Rattle.std.specs.Int.{w128}
 use Rattle.std.specs.List.{AllByRecursion}
 use Rattle.std.specs.Ordering.{is_eq, ordering_reverse}
@@ -14,9 +13,12 @@ use Rattle.monomial.proofs.Total.{monomial_cmp-IsAntisymmetric, monomial_cmp-IsT
 use Rattle.sparse_poly.specs.declared.Term.{Term}
 use Rattle.sparse_poly.specs.declared.entry.Share.{Share}
 use Rattle.sparse_poly.specs.Polynomials.{coefficient}
-use Rattle.sparse_poly.specs.Contributions.{max_coeff, IsFalling, IsPoly}
-use Rattle.sparse_poly.specs.Standing.{ssum, sweight, AllBelow, IsDescending, IsLightSum, IsHeaviestShare}
+use Rattle.sparse_poly.specs.Contributions.{max_coeff, IsFalling}
+use Rattle.sparse_poly.specs.Standing.{ssum, sweight, Agree, AllBelow, IsDescending, IsTaken, IsLightSum, IsHeaviestShare}
 use Rattle.sparse_poly.proofs.Evaluation.{zero_plus, coefficient-append}
+use Rattle.sparse_poly.proofs.Sums.{ssum-append, sweight-append}
+use Rattle.sparse_poly.proofs.Standings.{same_if_light, heavy_if, light_if}
+use Rattle.sparse_poly.proofs.Merges.{Merging, Merging-start, Merging-more, Merging-agrees, low_all}
 use Rattle.sparse_poly.proofs.Descending.{all_more, all_map, below_more}
 
 none_more : (n : ℕ) → 0 + n ≡ n
@@ -41,86 +43,81 @@ tied Less e = absurd (cc e)
 tied Equal e = refl
 tied Greater e = absurd (cc e)
 
-not_more : (n m : ℕ) → (m < n → ⊥) → n ≤ m
-not_more n m h = elim (nat_lt m n) as (λ b. nat_lt m n ≡ b → n ≤ m) [ true ↦ λ e. absurd (h (grind (arith, nat_tests))) | false ↦ λ e. grind (arith, nat_tests) ] refl
+-- us and vs are left of the shares xs and ys, and out is the polynomial of those that went
+pub record Squeezed (xs ys us vs : List Share) (out : List Term) : Type 0 where
+  pub done : List Share
+  pub merging : Merging xs ys us vs done
+  pub light : IsLightSum done out
+  pub above : AllByRecursion (λ (t : Term). AllBelow t.monomial us × AllBelow t.monomial vs) out
 
--- the shares xs of ds are left, and out is the polynomial of the others
-pub record Squeezed (ds xs : List Share) (out : List Term) : Type 0 where
-  pub descending : IsDescending xs
-  pub sums : (k : List (ℕ × ℕ)) → ssum ds k ≡ ssum xs k +ℤ coefficient out k
-  pub parts : (k : List (ℕ × ℕ)) → sweight xs k ≤ sweight ds k
-  pub light : (k : List (ℕ × ℕ)) → max_coeff < sweight ds k → sweight xs k ≡ sweight ds k
-  pub above : AllByRecursion (λ (t : Term). AllBelow t.monomial xs) out
-  pub poly : IsPoly out
-
-pub Squeezed-start : (ds : List Share) → IsDescending ds → Squeezed ds ds []
-Squeezed-start ds r = record {
-  descending = r;
-  sums = λ k. sym (zero_right (ssum ds k));
-  parts = λ k. omega arith;
-  light = λ k h. refl;
+pub Squeezed-start : (xs ys : List Share) → Squeezed xs ys xs ys []
+Squeezed-start xs ys = record {
+  done = [];
+  merging = Merging-start xs ys;
+  light = record { light = λ m. omega arith; sums = λ m. refl; poly = record { falling = tt; monomials = tt; apart = tt; in_range = tt } };
   above = tt;
-  poly = record { falling = tt; monomials = tt; apart = tt; in_range = tt };
 }
-  where
-    zero_right : (z : ℤ) → z +ℤ pos 0 ≡ z
-    zero_right z = omega (arith, ints)
+
+-- no share of the next monomial went before
+fresh : (xs ys us vs us' vs' done : List Share) (s : Share) → IsDescending xs → IsDescending ys → Merging xs ys us vs done → IsTaken us vs us' vs' s → (ssum done s.monomial ≡ pos 0) × (sweight done s.monomial ≡ 0)
+fresh xs ys us vs us' vs' done s d e g h =
+    others_zero s.monomial done
+    (all_map (λ (o : Share). monomial_cmp s.monomial o.monomial ≡ Less) (λ (o : Share). is_eq (monomial_cmp s.monomial o.monomial) ≡ false) done (λ o l. ap is_eq l)
+    (low_all (λ (o : Share). o.monomial) us vs us' vs' done s h (g.falling d e).3).1)
 
 -- what is known once a light share went
-record After (ds ys : List Share) (out : List Term) (s : Share) : Type 0 where
-  descending : IsDescending ys
-  low : AllBelow s.monomial ys
-  sums : (k : List (ℕ × ℕ)) → ssum ds k ≡ (ssum ys k +ℤ (if is_eq (monomial_cmp k s.monomial) then s.sum else pos 0)) +ℤ coefficient out k
-  parts : (k : List (ℕ × ℕ)) → sweight ys k ≤ sweight ds k
-  light : (k : List (ℕ × ℕ)) → max_coeff < sweight ds k → sweight ys k ≡ sweight ds k
-  above : AllByRecursion (λ (t : Term). AllBelow t.monomial ys) out
+record After (xs ys us vs done : List Share) (out : List Term) (s : Share) : Type 0 where
+  merging : Merging xs ys us vs (done ++ s ∷ [])
+  light : (k : List (ℕ × ℕ)) → sweight (done ++ s ∷ []) k ≤ max_coeff
+  sums : (k : List (ℕ × ℕ)) → ssum (done ++ s ∷ []) k ≡ coefficient out k +ℤ ((if is_eq (monomial_cmp k s.monomial) then s.sum else pos 0) +ℤ pos 0)
+  above : AllByRecursion (λ (t : Term). AllBelow t.monomial us × AllBelow t.monomial vs) out
   above_own : AllByRecursion (λ (t : Term). monomial_cmp s.monomial t.monomial ≡ Less) out
+  low : AllBelow s.monomial us × AllBelow s.monomial vs
 
-After-light : (ds ys : List Share) (out : List Term) (s : Share) → Squeezed ds (s ∷ ys) out → s.weight ≤ max_coeff → After ds ys out s
-After-light ds ys out s q l = record {
-  descending = q.descending.1;
-  low = q.descending.0;
-  sums = λ k. q.sums k ∙ ap (λ z. z +ℤ coefficient out k) (swap (if is_eq (monomial_cmp k s.monomial) then s.sum else pos 0) (ssum ys k));
-  parts = λ k. less_part (if is_eq (monomial_cmp k s.monomial) then s.weight else 0) (sweight ys k) (sweight ds k) (q.parts k);
-  light = λ k h. light_step k (is_eq (monomial_cmp k s.monomial)) refl h (q.light k h);
-  above = all_map (λ (t : Term). AllBelow t.monomial (s ∷ ys)) (λ (t : Term). AllBelow t.monomial ys) out (λ t h. h.1) q.above;
-  above_own = all_map (λ (t : Term). AllBelow t.monomial (s ∷ ys)) (λ (t : Term). monomial_cmp s.monomial t.monomial ≡ Less) out (λ t h. h.0) q.above;
-}
+After-light : (xs ys us vs us' vs' : List Share) (out : List Term) (s : Share) → IsDescending xs → IsDescending ys → (q : Squeezed xs ys us vs out) → IsTaken us vs us' vs' s → s.weight ≤ max_coeff → After xs ys us' vs' q.done out s
+After-light xs ys us vs us' vs' out s d e q h l =
+    let below = low_all (λ (t : Term). t.monomial) us vs us' vs' out s h q.above in
+    let old = q.merging.falling d e in
+    let new = h.falling old.0 old.1 in
+    record {
+      merging = Merging-more xs ys us vs us' vs' q.done s q.merging h;
+      light = λ k. light_step k (is_eq (monomial_cmp k s.monomial)) refl (q.light.light k);
+      sums = λ k. ssum-append k q.done (s ∷ []) ∙ ap (λ z. z +ℤ ((if is_eq (monomial_cmp k s.monomial) then s.sum else pos 0) +ℤ pos 0)) (sym (q.light.sums k));
+      above = below.0;
+      above_own = below.1;
+      low = (new.2, new.3);
+    }
   where
-    swap : (a b : ℤ) → a +ℤ b ≡ b +ℤ a
-    swap a b = omega (arith, ints)
-
-    less_part : (a b c : ℕ) → a + b ≤ c → b ≤ c
-    less_part a b c h = omega arith
-
-    light_step : (k : List (ℕ × ℕ)) (b : Bool) → is_eq (monomial_cmp k s.monomial) ≡ b → max_coeff < sweight ds k → sweight (s ∷ ys) k ≡ sweight ds k → sweight ys k ≡ sweight ds k
-    light_step k true e h i =
-        let same : s.monomial ≡ k = sym (monomial_cmp-IsAntisymmetric k s.monomial (tied _ e)) in
-        let gone : sweight ys k ≡ 0 = (below_zero k ys (subst (λ m. AllBelow m ys) same q.descending.0)).1 in
-        let whole : sweight (s ∷ ys) k ≡ s.weight + sweight ys k = ap (λ c. (if c then s.weight else 0) + sweight ys k) e in
-        absurd (omega arith)
-    light_step k false e h i =
-        let whole : sweight (s ∷ ys) k ≡ 0 + sweight ys k = ap (λ c. (if c then s.weight else 0) + sweight ys k) e in
+    light_step : (k : List (ℕ × ℕ)) (b : Bool) → is_eq (monomial_cmp k s.monomial) ≡ b → sweight q.done k ≤ max_coeff → sweight (q.done ++ s ∷ []) k ≤ max_coeff
+    light_step k true g i =
+        let same : k ≡ s.monomial = monomial_cmp-IsAntisymmetric k s.monomial (tied _ g) in
+        let gone : sweight q.done k ≡ 0 = ap (sweight q.done) same ∙ (fresh xs ys us vs us' vs' q.done s d e q.merging h).1 in
+        let whole : sweight (q.done ++ s ∷ []) k ≡ sweight q.done k + (s.weight + 0) = sweight-append k q.done (s ∷ []) ∙ ap (λ c. sweight q.done k + ((if c then s.weight else 0) + 0)) g in
+        omega arith
+    light_step k false g i =
+        let whole : sweight (q.done ++ s ∷ []) k ≡ sweight q.done k + (0 + 0) = sweight-append k q.done (s ∷ []) ∙ ap (λ c. sweight q.done k + ((if c then s.weight else 0) + 0)) g in
         omega arith
 
 -- a light share that adds up to zero
-pub Squeezed-dropped : (ds ys : List Share) (out : List Term) (s : Share) → Squeezed ds (s ∷ ys) out → s.weight ≤ max_coeff → s.sum ≡ pos 0 → Squeezed ds ys out
-Squeezed-dropped ds ys out s q l z =
-    let a = After-light ds ys out s q l in
+pub Squeezed-dropped : (xs ys us vs us' vs' : List Share) (out : List Term) (s : Share) → IsDescending xs → IsDescending ys → Squeezed xs ys us vs out → IsTaken us vs us' vs' s → s.weight ≤ max_coeff → s.sum ≡ pos 0 → Squeezed xs ys us' vs' out
+Squeezed-dropped xs ys us vs us' vs' out s d e q h l z =
+    let a = After-light xs ys us vs us' vs' out s d e q h l in
     record {
-      descending = a.descending;
-      sums = λ k. a.sums k ∙ ap (λ y. (ssum ys k +ℤ y) +ℤ coefficient out k) (ap (λ y. if is_eq (monomial_cmp k s.monomial) then y else pos 0) z ∙ either (is_eq (monomial_cmp k s.monomial))) ∙ ap (λ y. y +ℤ coefficient out k) (zero_right (ssum ys k));
-      parts = a.parts;
-      light = a.light;
+      done = q.done ++ s ∷ [];
+      merging = a.merging;
+      light = record {
+        light = a.light;
+        sums = λ k. sym (a.sums k ∙ ap (λ y. coefficient out k +ℤ (y +ℤ pos 0)) (ap (λ y. if is_eq (monomial_cmp k s.monomial) then y else pos 0) z ∙ either (is_eq (monomial_cmp k s.monomial))) ∙ zero_right (coefficient out k));
+        poly = q.light.poly;
+      };
       above = a.above;
-      poly = q.poly;
     }
   where
     either : (b : Bool) → (if b then pos 0 else pos 0) ≡ pos 0
     either true = refl
     either false = refl
 
-    zero_right : (y : ℤ) → y +ℤ pos 0 ≡ y
+    zero_right : (y : ℤ) → y +ℤ (pos 0 +ℤ pos 0) ≡ y
     zero_right y = omega (arith, ints)
 
 pub falling_more : (out : List Term) (t : Term) → IsFalling out → AllByRecursion (λ (x : Term). monomial_cmp t.monomial x.monomial ≡ Less) out → IsFalling (out ++ t ∷ [])
@@ -128,55 +125,68 @@ falling_more [] t f a = (tt, tt)
 falling_more (x ∷ xs) t f a = (all_more (λ (u : Term). monomial_cmp u.monomial x.monomial ≡ Less) xs t f.0 a.0, falling_more xs t f.1 a.1)
 
 -- a light share that does not
-pub Squeezed-pushed : (ds ys : List Share) (out : List Term) (s : Share) → Squeezed ds (s ∷ ys) out → s.weight ≤ max_coeff → s.sum ≢ pos 0 → IsMonomial s.monomial → Squeezed ds ys (out ++ (let t : Term = record { monomial = s.monomial; coeff = s.sum } in t) ∷ [])
-Squeezed-pushed ds ys out s q l z w =
-    let a = After-light ds ys out s q l in
+pub Squeezed-pushed : (xs ys us vs us' vs' : List Share) (out : List Term) (s : Share) → IsDescending xs → IsDescending ys → Squeezed xs ys us vs out → IsTaken us vs us' vs' s → s.weight ≤ max_coeff → s.sum ≢ pos 0 → IsMonomial s.monomial → Squeezed xs ys us' vs' (out ++ (let t : Term = record { monomial = s.monomial; coeff = s.sum } in t) ∷ [])
+Squeezed-pushed xs ys us vs us' vs' out s d e q h l z w =
+    let a = After-light xs ys us vs us' vs' out s d e q h l in
     let t : Term = record { monomial = s.monomial; coeff = s.sum } in
+    let p = q.light.poly in
     record {
-      descending = a.descending;
-      sums = λ k. a.sums k ∙ moved (ssum ys k) (if is_eq (monomial_cmp k s.monomial) then s.sum else pos 0) (coefficient out k)
-          ∙ ap (λ y. ssum ys k +ℤ y) (sym (coefficient-append k out (t ∷ [])));
-      parts = a.parts;
-      light = a.light;
-      above = all_more (λ (u : Term). AllBelow u.monomial ys) out t a.above a.low;
-      poly = record {
-        falling = falling_more out t q.poly.falling a.above_own;
-        monomials = all_more (λ (u : Term). IsMonomial u.monomial) out t q.poly.monomials w;
-        apart = all_more (λ (u : Term). u.coeff ≢ pos 0) out t q.poly.apart z;
-        in_range = all_more (λ (u : Term). unsigned_abs u.coeff ≤ max_coeff) out t q.poly.in_range (within s.within);
+      done = q.done ++ s ∷ [];
+      merging = a.merging;
+      light = record {
+        light = a.light;
+        sums = λ k. coefficient-append k out (t ∷ []) ∙ sym (a.sums k);
+        poly = record {
+          falling = falling_more out t p.falling a.above_own;
+          monomials = all_more (λ (u : Term). IsMonomial u.monomial) out t p.monomials w;
+          apart = all_more (λ (u : Term). u.coeff ≢ pos 0) out t p.apart z;
+          in_range = all_more (λ (u : Term). unsigned_abs u.coeff ≤ max_coeff) out t p.in_range (within s.within);
+        };
       };
+      above = all_more (λ (u : Term). AllBelow u.monomial us' × AllBelow u.monomial vs') out t a.above a.low;
     }
   where
-    moved : (x y z : ℤ) → (x +ℤ y) +ℤ z ≡ x +ℤ (z +ℤ (y +ℤ pos 0))
-    moved x y z = omega (arith, ints)
-
     within : unsigned_abs s.sum ≤ s.weight → unsigned_abs s.sum ≤ max_coeff
     within h = omega arith
 
-pub Squeezed-heavy : (ds ys : List Share) (out : List Term) (s : Share) → Squeezed ds (s ∷ ys) out → max_coeff < s.weight → IsHeaviestShare ds s.monomial
-Squeezed-heavy ds ys out s q h = record {
-  heavy = more max_coeff s.weight (sweight ys s.monomial) (sweight (s ∷ ys) s.monomial) (sweight ds s.monomial) h own (q.parts s.monomial);
-  greatest = λ k l. not_more (sweight ds k) max_coeff (λ g. none_there (sweight (s ∷ ys) k) (sweight ds k) max_coeff g (q.light k g) (below_zero k (s ∷ ys) (l, below_more s.monomial k ys l q.descending.0)).1);
+pub Squeezed-heavy : (xs ys us vs us' vs' : List Share) (out : List Term) (s : Share) → IsDescending xs → IsDescending ys → Squeezed xs ys us vs out → IsTaken us vs us' vs' s → max_coeff < s.weight → IsHeaviestShare (xs ++ ys) s.monomial
+Squeezed-heavy xs ys us vs us' vs' out s d e q h w =
+    let old = q.merging.falling d e in
+    let new = h.falling old.0 old.1 in
+    let both = Merging-agrees xs ys us' vs' (q.done ++ s ∷ []) (Merging-more xs ys us vs us' vs' q.done s q.merging h) in
+    record {
+      heavy = heavy_if _ _ _ _ (both s.monomial) (more max_coeff s.weight (sweight q.done s.monomial) (sweight (q.done ++ s ∷ []) s.monomial) (sweight us' s.monomial + sweight vs' s.monomial) w (own s.monomial true (ap is_eq (tied_itself monomial_cmp-IsTotalOrder s.monomial))));
+      greatest = λ k l. light_if _ _ _ _ (both k) (less max_coeff (sweight q.done k) (sweight (q.done ++ s ∷ []) k) (sweight us' k) (sweight vs' k) (q.light.light k) (own k false (not_tied k s l))
+          (below_zero k us' (below_more s.monomial k us' l new.2)).1 (below_zero k vs' (below_more s.monomial k vs' l new.3)).1);
+    }
+  where
+    own : (k : List (ℕ × ℕ)) (b : Bool) → is_eq (monomial_cmp k s.monomial) ≡ b → sweight (q.done ++ s ∷ []) k ≡ sweight q.done k + ((if b then s.weight else 0) + 0)
+    own k b g = sweight-append k q.done (s ∷ []) ∙ ap (λ c. sweight q.done k + ((if c then s.weight else 0) + 0)) g
+
+    more : (M w a b c : ℕ) → M < w → b ≡ a + (w + 0) → M < b + c
+    more M w a b c h e = omega arith
+
+    less : (M a b c d : ℕ) → a ≤ M → b ≡ a + (0 + 0) → c ≡ 0 → d ≡ 0 → b + (c + d) ≤ M
+    less M a b c d h e f g = omega arith
+
+pub Squeezed-end : (xs ys us vs : List Share) (out : List Term) → Squeezed xs ys us vs out → (us ≡ []) × (vs ≡ []) → IsLightSum (xs ++ ys) out
+Squeezed-end xs ys us vs out q (e, f) = record {
+  light = λ m. light_if _ _ _ _ (both m) (whole m);
+  sums = λ m. q.light.sums m ∙ plain_sum (ssum q.done m) ∙ ap (λ z. ssum q.done m +ℤ z) (sym (ap (λ zs. ssum zs m +ℤ ssum vs m) e ∙ ap (λ zs. pos 0 +ℤ ssum zs m) f)) ∙ (same_if_light _ _ _ _ (both m) (whole m)).1;
+  poly = q.light.poly;
 }
   where
-    own : sweight (s ∷ ys) s.monomial ≡ s.weight + sweight ys s.monomial
-    own = ap (λ b. (if b then s.weight else 0) + sweight ys s.monomial) (ap is_eq (tied_itself monomial_cmp-IsTotalOrder s.monomial))
+    both : (m : List (ℕ × ℕ)) → Agree (sweight q.done m + (sweight us m + sweight vs m)) (ssum q.done m +ℤ (ssum us m +ℤ ssum vs m)) (sweight (xs ++ ys) m) (ssum (xs ++ ys) m)
+    both = Merging-agrees xs ys us vs q.done q.merging
 
-    more : (M w a b c : ℕ) → M < w → b ≡ w + a → b ≤ c → M < c
-    more M w a b c h e l = omega arith
+    none : (M a b c : ℕ) → a ≤ M → b ≡ 0 → c ≡ 0 → a + (b + c) ≤ M
+    none M a b c h i j = omega arith
 
-    none_there : (a b M : ℕ) → M < b → a ≡ b → a ≡ 0 → ⊥
-    none_there a b M g e z = omega arith
+    whole : (m : List (ℕ × ℕ)) → sweight q.done m + (sweight us m + sweight vs m) ≤ max_coeff
+    whole m = none max_coeff (sweight q.done m) (sweight us m) (sweight vs m) (q.light.light m) (ap (λ zs. sweight zs m) e) (ap (λ zs. sweight zs m) f)
 
-pub Squeezed-end : (ds : List Share) (out : List Term) → Squeezed ds [] out → IsLightSum ds out
-Squeezed-end ds out q = record {
-  light = λ m. not_more (sweight ds m) max_coeff (λ g. none_left (sweight ds m) max_coeff g (q.light m g));
-  sums = λ k. sym (q.sums k ∙ zero_plus _);
-  poly = q.poly;
-}
-  where
-    none_left : (b M : ℕ) → M < b → 0 ≡ b → ⊥
-    none_left b M g e = omega arith
+    plain_sum : (a : ℤ) → a ≡ a +ℤ (pos 0 +ℤ pos 0)
+    plain_sum a = omega (arith, ints)
 
 -- a coefficient by its bits
 pub zero_bits : (z : ℤ) → FitsSigned w128 z → of_z w128 z ≡ 0 → z ≡ pos 0

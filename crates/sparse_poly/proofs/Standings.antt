@@ -1,5 +1,5 @@
 -- Shares and what they stand for: sums in range are exact, and sums out of range stay so.
-use Rattle.std.specs.Prelude.{◌≡◌, ◌<◌, ◌≤◌, ℕ, ◌+◌, Bool, true, false, if◌then◌else◌, nat_le, ℤ, pos, negsuc, unsigned_abs, ◌+ℤ◌, List, [], ◌∷◌, ◌++◌, length, slice_index_or, take, ◌*ℤ◌, refl}
+use Rattle.std.specs.Prelude.{◌≡◌, ◌<◌, ◌≤◌, ℕ, ◌+◌, ◌-◌, Bool, true, false, if◌then◌else◌, nat_le, ℤ, pos, negsuc, unsigned_abs, ◌+ℤ◌, List, [], ◌∷◌, ◌++◌, length, slice_index_or, take, drop, ◌*ℤ◌, refl}
 use mathlib.Core.Logic.{inl, inr}
 use Rattle.std.proofs.Common.{arith, sym, ◌∙◌, ap, subst}
 use Rattle.std.specs.Ordering.{is_eq}
@@ -9,6 +9,8 @@ use Rattle.sparse_poly.specs.Standing.{Agree, Stands, StandsForBoth, IsLightSum,
 use Rattle.sparse_poly.proofs.Evaluation.{coefficient-append, weight-append}
 use Rattle.sparse_poly.proofs.Sums.{ssum-append, sweight-append}
 use Rattle.std.proofs.lemmas.Bool.Decides.{nat_tests}
+use Rattle.std.proofs.lemmas.List.{take-append-drop}
+use Rattle.std.proofs.lemmas.Slice.{between_to_end}
 use Rattle.std.specs.declared.option.Option.{Option}
 use Rattle.std.specs.declared.option.Option.TheVariants.{None}
 use Rattle.sparse_poly.specs.declared.Term.{Term}
@@ -41,15 +43,15 @@ agree_kept c = elim (nat_le (unsigned_abs c) max_coeff) as (λ b. nat_le (unsign
   | false ↦ λ e. inr (omega arith, above_limit (unsigned_abs c) e)
 ] refl
 
-same_if_light : (w v : ℕ) (z y : ℤ) → Agree w z v y → w ≤ max_coeff → (w ≡ v) × (z ≡ y)
+pub same_if_light : (w v : ℕ) (z y : ℤ) → Agree w z v y → w ≤ max_coeff → (w ≡ v) × (z ≡ y)
 same_if_light w v z y (inl h) l = h
 same_if_light w v z y (inr h) l = absurd (omega (arith, h.0, l))
 
-heavy_if : (w v : ℕ) (z y : ℤ) → Agree w z v y → max_coeff < w → max_coeff < v
+pub heavy_if : (w v : ℕ) (z y : ℤ) → Agree w z v y → max_coeff < w → max_coeff < v
 heavy_if w v z y (inl h) l = omega (arith, h.0, l)
 heavy_if w v z y (inr h) l = h.1
 
-light_if : (w v : ℕ) (z y : ℤ) → Agree w z v y → w ≤ max_coeff → v ≤ max_coeff
+pub light_if : (w v : ℕ) (z y : ℤ) → Agree w z v y → w ≤ max_coeff → v ≤ max_coeff
 light_if w v z y a l = let e = (same_if_light w v z y a l).0 in omega arith
 
 pub IsResult-from_shares : (ss : List Share) (cs p : List Term) → Stands ss cs → degree_of cs ≡ None → IsLightSum ss p → IsResult cs p
@@ -87,6 +89,19 @@ same_agrees a b x y e f = inl (e, f)
 pub Stands-both : (ss xs ys : List Share) (cs ds : List Term) → StandsForBoth ss xs ys → Stands xs cs → Stands ys ds → Stands ss (cs ++ ds)
 Stands-both ss xs ys cs ds b x y m =
     agree_through _ _ _ _ _ _ (b m) (agree_through _ _ _ _ _ _ (agree_plus _ _ _ _ _ _ _ _ (x m) (y m)) (same_agrees _ _ _ _ (sym (weight-append m cs ds)) (sym (coefficient-append m cs ds))))
+
+pub StandsForBoth-append : (xs ys : List Share) → StandsForBoth (xs ++ ys) xs ys
+StandsForBoth-append xs ys m = same_agrees _ _ _ _ (sweight-append m xs ys) (ssum-append m xs ys)
+
+pub Stands-append : (xs ys : List Share) (cs ds : List Term) → Stands xs cs → Stands ys ds → Stands (xs ++ ys) (cs ++ ds)
+Stands-append xs ys cs ds a b = Stands-both (xs ++ ys) xs ys cs ds (StandsForBoth-append xs ys) a b
+
+pub Stands-alone : (xs ys : List Share) (cs : List Term) → ys ≡ [] → Stands xs cs → Stands (xs ++ ys) cs
+Stands-alone xs ys cs e a = subst (λ zs. Stands zs cs) (sym (append_nil xs) ∙ ap (λ zs. xs ++ zs) (sym e)) a
+  where
+    append_nil : (xs : List Share) → xs ++ [] ≡ xs
+    append_nil [] = refl
+    append_nil (x ∷ xs) = ap (λ zs. x ∷ zs) (append_nil xs)
 
 pub Stands-one : (s : Share) (t : Term) → s.monomial ≡ t.monomial → Agree s.weight s.sum (unsigned_abs t.coeff) t.coeff → Stands (s ∷ []) (t ∷ [])
 Stands-one s t e a m = agree_plus _ _ _ _ _ _ _ _ (subst (λ n. Agree (if is_eq (monomial_cmp m s.monomial) then s.weight else 0) (if is_eq (monomial_cmp m s.monomial) then s.sum else pos 0) (if is_eq (monomial_cmp m n) then unsigned_abs t.coeff else 0) (if is_eq (monomial_cmp m n) then t.coeff else pos 0)) e (either (is_eq (monomial_cmp m s.monomial)))) (inl (refl, refl))
@@ -131,6 +146,9 @@ Rowed-end b t us k old now ss e r =
     (r.high ∙ ap (λ cs. higher old (degree_of cs)) row, λ n. rw row at (r.sums n))
 
 -- the halves of a product
+pub halves : (ts : List Term) (k : ℕ) → ts ≡ take k ts ++ take (length ts - k) (drop k ts)
+halves ts k = sym (ap (λ zs. take k ts ++ zs) (between_to_end ts k (length ts) (omega arith)) ∙ take-append-drop k ts)
+
 pub halves_high : (b : Bool) (ts us xs ys : List Term) (old mid new : Option ℕ) → ts ≡ xs ++ ys → mid ≡ higher old (degree_of (signed_products b xs us)) → new ≡ higher mid (degree_of (signed_products b ys us)) → new ≡ higher old (degree_of (signed_products b ts us))
 halves_high b ts us xs ys old mid new e f g =
     g ∙ ap (λ o. higher o (degree_of (signed_products b ys us))) f ∙ higher-assoc old (degree_of (signed_products b xs us)) (degree_of (signed_products b ys us))

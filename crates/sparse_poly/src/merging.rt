@@ -89,8 +89,9 @@ fn greater_front(first: &VecDeque<Share>, second: &VecDeque<Share>) -> Front
     }
 }
 
-// Takes the greatest share of two falling lists.
-fn next_share(first: &mut VecDeque<Share>, second: &mut VecDeque<Share>) -> Option<Share>
+/// Takes the greatest share of two falling lists.
+#[inline(always)]
+pub fn next_share(first: &mut VecDeque<Share>, second: &mut VecDeque<Share>) -> Option<Share>
     ensures { IsNext first.old.items second.old.items first.new.items second.new.items result }
 {
     match greater_front(first, second) {

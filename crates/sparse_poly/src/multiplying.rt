@@ -30,10 +30,9 @@ pub fn combined(
     let mut high = None;
     let first = part(alloc, l, q, false, &mut high)?;
     let second = part(alloc, a, p, true, &mut high)?;
-    let shares = merge(first, second)?;
     match high {
         Some(var) => Err(PolyFault::Degree { var }),
-        None => match squeeze(shares) {
+        None => match squeeze(first, second) {
             Ok(terms) => Ok(terms),
             Err(fault) => Err(fault),
         },
@@ -46,11 +45,13 @@ pub fn multiplied(alloc: Global, first: &[Term], second: &[Term]) -> Result<Vec<
     requires second_poly { IsPoly second.now }
     ensures { MatchResult result (λ v. IsResult (products first.now second.now) v.items) (IsFault (products first.now second.now)) }
 {
+    let half = first.len() / 2;
     let mut high = None;
-    let shares = part(alloc, first, second, false, &mut high)?;
+    let front = part(alloc, &first[..half], second, false, &mut high)?;
+    let back = part(alloc, &first[half..], second, false, &mut high)?;
     match high {
         Some(var) => Err(PolyFault::Degree { var }),
-        None => match squeeze(shares) {
+        None => match squeeze(front, back) {
             Ok(terms) => Ok(terms),
             Err(fault) => Err(fault),
         },
@@ -66,8 +67,7 @@ pub fn added(alloc: Global, first: &[Term], second: &[Term]) -> Result<Vec<Term>
 {
     let first = copied(alloc, first)?;
     let second = copied(alloc, second)?;
-    let shares = merge(first, second)?;
-    match squeeze(shares) {
+    match squeeze(first, second) {
         Ok(terms) => Ok(terms),
         Err(fault) => Err(fault),
     }
@@ -80,7 +80,7 @@ pub fn summed(alloc: Global, terms: Vec<Term>) -> Result<Vec<Term>, PolyFault>
 {
     let shares = gathered(alloc, terms)?;
     let shares = sorted(shares)?;
-    match squeeze(shares) {
+    match squeeze(shares, Vec::new(alloc)) {
         Ok(terms) => Ok(terms),
         Err(fault) => Err(fault),
     }

@@ -1,19 +1,25 @@
-//! The polynomial of a list of shares.
-ghost use Rattle.std.specs.Prelude.{◌≡◌, MatchResult};
+//! The polynomial of two lists of shares.
+ghost use Rattle.std.specs.Prelude.{◌≡◌, ◌++◌, MatchResult};
 ghost use Rattle.sparse_poly.specs.Standing.{IsDescending, IsLightSum, IsHeavyFault};
 
 use crate::entry::Share;
+use crate::merging::next_share;
 use crate::{PolyFault, Term};
 use std::collections::VecDeque;
 
-/// The sums of shares that fall, from the greatest monomial down.
-pub fn squeeze(shares: Vec<Share>) -> Result<Vec<Term>, PolyFault>
-    requires { IsDescending shares.items }
-    ensures { MatchResult result (λ v. IsLightSum shares.items v.items) (IsHeavyFault shares.items) }
+/// The sums of two lists of shares that fall, from the greatest monomial down.
+pub fn squeeze(first: Vec<Share>, second: Vec<Share>) -> Result<Vec<Term>, PolyFault>
+    requires first { IsDescending first.items }
+    requires second { IsDescending second.items }
+    ensures { MatchResult result (λ v. IsLightSum (first.items ++ second.items) v.items) (IsHeavyFault (first.items ++ second.items)) }
 {
-    let mut terms = Vec::with_capacity(*shares.allocator(), shares.len())?;
-    let mut shares = VecDeque::from(shares);
-    'shares: while let Some(share) = shares.pop_front() {
+    let mut terms = Vec::with_capacity(
+        *first.allocator(),
+        first.len().saturating_add(second.len()),
+    )?;
+    let mut first = VecDeque::from(first);
+    let mut second = VecDeque::from(second);
+    'shares: while let Some(share) = next_share(&mut first, &mut second) {
         if share.weight > i128::MAX as u128 {
             return Err(PolyFault::Heavy {
                 monomial: share.monomial,

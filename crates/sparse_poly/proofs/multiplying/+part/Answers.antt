@@ -1,13 +1,7 @@
-use Rattle.std.proofs.Common.{arith, ap, sym, ◌∙◌, ◌≡◌, ◌++◌, ◌/◌, ◌-◌, take, drop, length, List, ℕ}
-use Rattle.std.proofs.lemmas.List.{take-append-drop}
-use Rattle.std.proofs.lemmas.Slice.{between_to_end}
-use Rattle.sparse_poly.specs.declared.Term.{Term}
-use Rattle.sparse_poly.proofs.Standings.{halves_high, halves_sums}
+use Rattle.std.proofs.Common.{◌/◌, length}
+use Rattle.sparse_poly.proofs.Standings.{halves, halves_high, halves_sums}
 use Rattle.sparse_poly.proofs.Rows.{halves_order}
 use Rattle.sparse_poly.proofs.multiplying.+part.Goals as goal
-
-halves : (ts : List Term) (k : ℕ) → ts ≡ take k ts ++ take (length ts - k) (drop k ts)
-halves ts k = sym (ap (λ zs. take k ts ++ zs) (between_to_end ts k (length ts) (omega arith)) ∙ take-append-drop k ts)
 
 pub returns-in-Ok-clause-high : goal.returns-in-Ok-clause-high
 returns-in-Ok-clause-high t c =

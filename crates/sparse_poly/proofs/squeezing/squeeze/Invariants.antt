@@ -5,9 +5,9 @@ use Rattle.sparse_poly.proofs.squeezing.squeeze.Given as goal
 
 abbrev pub invariant-shares : goal.invariant-shares
 invariant-shares l = record {
-  squeezed : Squeezed l.fn.shares.items l.shares.items l.terms.items;
-  room : vec_len l.terms + length l.shares.items ≤ vec_capacity l.terms;
+  squeezed : Squeezed l.fn.first.items l.fn.second.items l.first.items l.second.items l.terms.items;
+  room : vec_len l.terms + (length l.first.items + length l.second.items) ≤ vec_capacity l.terms;
 }
 
 abbrev pub decreases-shares : goal.decreases-shares
-decreases-shares l = length l.shares.items
+decreases-shares l = length l.first.items + length l.second.items
