@@ -8,8 +8,6 @@ use Rattle.poly_text.specs.Form.{is_digit, run, ends, after_term}
 use Rattle.poly_text.specs.Numbers.{number_from, after_digits, first_out, IsFactorInRange, IsTermInRange}
 use Rattle.poly_text.specs.Scan.{scan, scan_end}
 use Rattle.poly_text.specs.State.{State, Start, Signed, FactorEnd}
-use Rattle.poly_text.specs.declared.form.Stop.{Stop}
-use Rattle.poly_text.specs.declared.form.Stop.TheVariants.{Syntax, OutOfMemory}
 
 -- the text goes on from this state by the form, and its numbers are in range
 pub record IsLive (unknowns : ℕ) (s : State) (text : List ℕ) : Type 0 where
@@ -55,9 +53,8 @@ pub record IsNumberFront (text : List ℕ) (n : ℕ) (rest : List ℕ) : Type 0 
   pub behind : rest ≡ after_digits text
 
 -- the text begins with no digit, or with a 0 and a further digit, at which it leaves the form
-abbrev pub IsNoNumber : List ℕ → Stop → Type 0
-IsNoNumber text (Syntax left) = ((begins_with_digit text ≡ false) × (left ≡ length text)) ⊎ ((begins_with text 48 ≡ true) × (begins_with_digit (drop 1 text) ≡ true) × (left ≡ length text - 1))
-IsNoNumber text OutOfMemory = ⊥
+abbrev pub IsNoNumber : List ℕ → ℕ → Type 0
+IsNoNumber text left = ((begins_with_digit text ≡ false) × (left ≡ length text)) ⊎ ((begins_with text 48 ≡ true) × (begins_with_digit (drop 1 text) ≡ true) × (left ≡ length text - 1))
 
 -- behind state s a number is read, and behind it state z goes on; the value is that of the number where the text is right
 pub record IsNumberRead (unknowns : ℕ) (s z : State) (old new : Option ℕ) (text : List ℕ) (n : ℕ) (rest : List ℕ) : Type 0 where

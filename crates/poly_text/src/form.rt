@@ -7,13 +7,32 @@ ghost use Rattle.poly_text.specs.Fronts.{begins_with, begins_with_digit, ends_te
 
 use std::alloc::AllocError;
 
-/// Why reading ends early. A place is told by the number of bytes that are left there.
+/// Where a text leaves the form: no text of the form goes on with the byte there, or the text only
+/// ended early.
+#[derive(Clone, Copy, Drop)]
+pub(crate) struct SyntaxFault {
+    /// The number of bytes that are left there.
+    pub(crate) left: usize,
+}
+
+/// Why reading ends early.
 #[derive(Clone, Copy, Drop)]
 pub(crate) enum Stop {
-    /// No text of the form goes on with this byte, or the text only ended early.
+    /// The text leaves the form where this many bytes are left.
     Syntax { left: usize },
     /// An allocation failed.
     OutOfMemory,
+}
+
+impl From<SyntaxFault> for Stop {
+    ghost use Rattle.std.specs.Prelude.{◌≡◌};
+    ghost use Rattle.poly_text.specs.declared.form.Stop.TheVariants.{Syntax};
+
+    ghost from_gives = { λ fault stop. stop ≡ Syntax fault.left };
+
+    fn from(fault: SyntaxFault) -> Stop {
+        Stop::Syntax { left: fault.left }
+    }
 }
 
 impl From<AllocError> for Stop {

@@ -1,14 +1,14 @@
 //! The numbers of a polynomial's text.
 
-ghost use Rattle.std.specs.Prelude.{◌≡◌, ◌<◌, ◌≤◌, ◌+◌, ◌-◌, ◌*◌, ◌⊎◌, ℕ, true, false, MatchResult};
+ghost use Rattle.std.specs.Prelude.{◌≡◌, ◌<◌, ◌≤◌, ◌+◌, ◌-◌, ◌*◌, ◌⊎◌, ℕ, true, false, Err, MatchResult};
 ghost use Rattle.sparse_poly.specs.Contributions.{max_coeff};
 ghost use Rattle.poly_text.specs.Form.{is_digit};
 ghost use Rattle.poly_text.specs.State.{Letter, VariableZero, Caret, FactorEnd, Signed};
 ghost use Rattle.poly_text.specs.Numbers.{number_from, after_digits};
-ghost use Rattle.poly_text.specs.Scan.{scan, IsStop};
+ghost use Rattle.poly_text.specs.Scan.{scan};
 ghost use Rattle.poly_text.specs.Fronts.{begins_with, IsNumberFront, IsNoNumber, IsNumberRead, IsCoefficientRead};
 
-use crate::form::{Stop, begins_with, begins_with_digit, behind, note};
+use crate::form::{SyntaxFault, begins_with, begins_with_digit, behind, note};
 
 /// The greatest absolute value of a coefficient.
 const MAX_COEFF: u128 = i128::MAX as u128;
@@ -44,14 +44,14 @@ fn split_digits(text: &[u8]) -> (u128, &[u8])
 }
 
 /// The number at the front of a text, which has no leading zeros, and what follows it.
-fn split_number(text: &[u8]) -> Result<(u128, &[u8]), Stop>
-    ensures { MatchResult result (λ r. IsNumberFront text.now r.0 r.1.now) (IsNoNumber text.now) }
+fn split_number(text: &[u8]) -> Result<(u128, &[u8]), SyntaxFault>
+    ensures { MatchResult result (λ r. IsNumberFront text.now r.0 r.1.now) (λ e. IsNoNumber text.now e.left) }
 {
     if !begins_with_digit(text) {
-        return Err(Stop::Syntax { left: text.len() });
+        return Err(SyntaxFault { left: text.len() });
     }
     if begins_with(text, b'0') && begins_with_digit(behind(text, 1)) {
-        return Err(Stop::Syntax {
+        return Err(SyntaxFault {
             left: text.len() - 1,
         });
     }
@@ -63,8 +63,8 @@ pub(crate) fn split_variable<'a>(
     unknowns: u32,
     text: &'a [u8],
     fault: &mut Option<usize>,
-) -> Result<(u32, &'a [u8]), Stop>
-    ensures { MatchResult result (λ r. IsNumberRead unknowns Letter VariableZero fault.old fault.new text.now r.0 r.1.now) (IsStop (scan unknowns fault.old Letter text.now)) }
+) -> Result<(u32, &'a [u8]), SyntaxFault>
+    ensures { MatchResult result (λ r. IsNumberRead unknowns Letter VariableZero fault.old fault.new text.now r.0 r.1.now) (λ e. scan unknowns fault.old Letter text.now ≡ Err e.left) }
 {
     let (number, rest) = split_number(text)?;
     if number < unknowns as u128 {
@@ -79,8 +79,8 @@ pub(crate) fn split_variable<'a>(
 pub(crate) fn split_exponent<'a>(
     text: &'a [u8],
     fault: &mut Option<usize>,
-) -> Result<(u16, &'a [u8]), Stop>
-    ensures { (unknowns : ℕ) → MatchResult result (λ r. IsNumberRead unknowns Caret FactorEnd fault.old fault.new text.now r.0 r.1.now) (IsStop (scan unknowns fault.old Caret text.now)) }
+) -> Result<(u16, &'a [u8]), SyntaxFault>
+    ensures { (unknowns : ℕ) → MatchResult result (λ r. IsNumberRead unknowns Caret FactorEnd fault.old fault.new text.now r.0 r.1.now) (λ e. scan unknowns fault.old Caret text.now ≡ Err e.left) }
 {
     let (number, rest) = split_number(text)?;
     if 2 <= number && number <= 65535 {
@@ -96,12 +96,12 @@ pub(crate) fn split_exponent<'a>(
 pub(crate) fn split_coefficient<'a>(
     text: &'a [u8],
     fault: &mut Option<usize>,
-) -> Result<(u128, &'a [u8]), Stop>
+) -> Result<(u128, &'a [u8]), SyntaxFault>
     requires { begins_with text.now 120 ≡ false }
-    ensures { (unknowns : ℕ) → MatchResult result (λ r. IsCoefficientRead unknowns fault.old fault.new text.now r.0 r.1.now) (IsStop (scan unknowns fault.old Signed text.now)) }
+    ensures { (unknowns : ℕ) → MatchResult result (λ r. IsCoefficientRead unknowns fault.old fault.new text.now r.0 r.1.now) (λ e. scan unknowns fault.old Signed text.now ≡ Err e.left) }
 {
     if !begins_with_digit(text) || begins_with(text, b'0') {
-        return Err(Stop::Syntax { left: text.len() });
+        return Err(SyntaxFault { left: text.len() });
     }
     let (number, rest) = split_digits(text);
     if number <= MAX_COEFF {

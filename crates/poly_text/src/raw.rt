@@ -1,6 +1,6 @@
 //! The terms of a text, with terms and factors in any order.
 
-ghost use Rattle.std.specs.Prelude.{◌≡◌, ◌≤◌, ◌<◌, [], ◌++◌, ◌∷◌, ℕ, List, true, None, Ok, OnOk, IfOk, MatchResult, map, length, drop, if◌then◌else◌};
+ghost use Rattle.std.specs.Prelude.{◌≡◌, ◌≤◌, ◌<◌, [], ◌++◌, ◌∷◌, ℕ, List, true, None, Ok, Err, OnOk, IfOk, MatchResult, map, length, drop, if◌then◌else◌};
 ghost use Rattle.std.specs.List.{AllByRecursion};
 ghost use Rattle.sparse_poly.specs.Contributions.{max_coeff};
 ghost use Rattle.poly_text.specs.Raw.{raw};
@@ -10,7 +10,7 @@ ghost use Rattle.poly_text.specs.Scan.{first_of, scan, scan_end, scan_terms, IsS
 ghost use Rattle.poly_text.specs.Fronts.{IsLive, IsFactorFront, IsFactorsFront, IsBodyFront, IsTermFront, begins_with, ends_term};
 ghost use Rattle.poly_text.specs.Places.{is_falling, last_monomial, next_place, IsFactorPlace, IsAtSign, IsReadTo, IsReading};
 
-use crate::form::{Stop, after_sign, begins_with, behind, ends_term, note};
+use crate::form::{Stop, SyntaxFault, after_sign, begins_with, behind, ends_term, note};
 use crate::numbers::{split_coefficient, split_exponent, split_variable};
 use crate::order::{is_falling, is_term_below, last_powers};
 use std::alloc::{AllocError, Global};
@@ -22,7 +22,8 @@ pub(crate) struct RawTerm {
     pub(crate) powers: Vec<(u32, u16)>,
 }
 
-/// What reading has found in a text. A place is told by the number of bytes that are left there.
+/// What reading has found in a text, with some value in place of each number out of range. A place is
+/// told by the number of bytes that are left there.
 #[derive(Drop)]
 pub(crate) struct Reading {
     pub(crate) terms: Vec<RawTerm>,
@@ -37,8 +38,8 @@ fn split_factor<'a>(
     unknowns: u32,
     text: &'a [u8],
     fault: &mut Option<usize>,
-) -> Result<((u32, u16), &'a [u8]), Stop>
-    ensures scan { MatchResult result (λ r. scan unknowns fault.old Letter text.now ≡ scan unknowns fault.new FactorEnd r.1.now) (IsStop (scan unknowns fault.old Letter text.now)) }
+) -> Result<((u32, u16), &'a [u8]), SyntaxFault>
+    ensures scan { MatchResult result (λ r. scan unknowns fault.old Letter text.now ≡ scan unknowns fault.new FactorEnd r.1.now) (λ e. scan unknowns fault.old Letter text.now ≡ Err e.left) }
     ensures front { IfOk result (λ r. IsLive unknowns Letter text.now → IsFactorFront unknowns text.now r.0 r.1.now) }
     ensures shorter { IfOk result (λ r. length r.1.now ≤ length text.now) }
 {
@@ -56,14 +57,14 @@ fn split_further_factor<'a>(
     unknowns: u32,
     text: &'a [u8],
     fault: &mut Option<usize>,
-) -> Result<((u32, u16), &'a [u8]), Stop>
-    ensures scan { MatchResult result (λ r. scan unknowns fault.old Times text.now ≡ scan unknowns fault.new FactorEnd r.1.now) (IsStop (scan unknowns fault.old Times text.now)) }
+) -> Result<((u32, u16), &'a [u8]), SyntaxFault>
+    ensures scan { MatchResult result (λ r. scan unknowns fault.old Times text.now ≡ scan unknowns fault.new FactorEnd r.1.now) (λ e. scan unknowns fault.old Times text.now ≡ Err e.left) }
     ensures begins { IfOk result (λ r. begins_with text.now 120 ≡ true) }
     ensures front { IfOk result (λ r. IsLive unknowns Letter (drop 1 text.now) → IsFactorFront unknowns (drop 1 text.now) r.0 r.1.now) }
     ensures shorter { IfOk result (λ r. length r.1.now ≤ length text.now) }
 {
     if !begins_with(text, b'x') {
-        return Err(Stop::Syntax { left: text.len() });
+        return Err(SyntaxFault { left: text.len() });
     }
     split_factor(unknowns, behind(text, 1), fault)
 }
@@ -212,7 +213,7 @@ fn read_term<'a>(
     Ok(rest)
 }
 
-/// Reads a text in one pass.
+/// Reads a text in one pass to its end, or to where it leaves the form.
 pub(crate) fn read_terms(alloc: Global, unknowns: u32, text: &[u8]) -> Result<Reading, Stop>
     ensures scan { MatchResult result (λ r. scan unknowns None Start text.now ≡ Ok r.number_fault) (IsStop (scan unknowns None Start text.now)) }
     ensures terms { IfOk result (λ r. IsLive unknowns Start text.now → IsReading unknowns text.now (map raw r.terms.items) r.disorder) }

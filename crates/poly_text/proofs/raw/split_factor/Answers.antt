@@ -1,8 +1,8 @@
 use Rattle.std.proofs.lemmas.Result.{err_from_is_err_and}
-use Rattle.std.proofs.Common.{rules, ◌≡◌, ◌<◌, ◌^◌, ◌∙◌, sym, ap, arith, refl, drop, length, true}
+use Rattle.std.proofs.Common.{rules, ◌≡◌, ◌<◌, ◌^◌, ◌∙◌, Err, sym, ap, arith, refl, drop, length, true}
 use Rattle.poly_text.specs.State.{Letter, VariableZero, Caret}
 use Rattle.poly_text.specs.Numbers.{number_from, after_digits}
-use Rattle.poly_text.specs.Scan.{scan, IsStop}
+use Rattle.poly_text.specs.Scan.{scan}
 use Rattle.poly_text.specs.Fronts.{begins_with, IsLive}
 use Rattle.poly_text.proofs.Fronts.{after_digits-le, length_behind, caret_live, bare_factor, power_factor}
 use Rattle.poly_text.proofs.Scans.{byte_scan}
@@ -15,7 +15,7 @@ returns-in_err-exponent-clause-scan c =
     let old = scan u c.args.fault.now Letter c.args.text.now in
     let b : begins_with c.in_ok-variable.rest.now 94 ≡ true = search rules in
     let e : old ≡ scan u f Caret c.behind.result.now = c.in_ok-variable.ensures.same ∙ byte_scan u f VariableZero Caret 94 c.in_ok-variable.rest.now b refl refl refl ∙ ap (scan u f Caret) (sym c.behind.ensures) in
-    let h : IsStop old c.in_err-exponent.field-0.0 = rw e (c.in_err-exponent.ensures u) in
+    let h : old ≡ Err c.in_err-exponent.field-0.0.left = rw e (c.in_err-exponent.ensures u) in
     let p = err_from_is_err_and c.from_residual-in_err-exponent.result c.from_residual-in_err-exponent.ensures.1 in
     rw (p.1, p.2) h
 
