@@ -15,3 +15,8 @@ pub mod UnitMonomials
 pub mod Strips
 pub mod Powers
 pub mod Units
+pub mod Words
+pub mod Layouts
+pub mod Packings
+pub mod PackedTerms
+pub mod PackedSqueezes
