@@ -5,29 +5,6 @@ use std::alloc::Global;
 use std::cmp::Ordering;
 use std::test::Fail;
 
-const SQUARE: Terms = &[
-    (1, [(1, 1), (0, 1)]),
-    (1, [(1, 1), (0, 0)]),
-    (1, [(0, 1), (0, 0)]),
-    (1, [(0, 0), (0, 0)]),
-];
-
-const HIGH: Terms = &[
-    (1, [(0, 32767), (0, 0)]),
-    (1, [(0, 2), (0, 0)]),
-    (1, [(0, 1), (0, 0)]),
-    (1, [(0, 0), (0, 0)]),
-];
-
-const HIGHER: Terms = &[
-    (1, [(0, 32768), (0, 0)]),
-    (1, [(0, 2), (0, 0)]),
-    (1, [(0, 1), (0, 0)]),
-    (1, [(0, 0), (0, 0)]),
-];
-
-const TWO: Terms = &[(1, [(1, 1), (0, 0)]), (-1, [(0, 1), (0, 0)])];
-
 /// What a combination came to.
 #[derive(PartialEq, Debug, Drop)]
 enum Came {
@@ -82,11 +59,17 @@ fn combination(alloc: Global, first: Terms, second: Terms, expected: Terms) -> R
 #[test]
 fn dense_products(rt: HostRuntime) -> Result<(), Fail> {
     let alloc = rt.alloc();
+    let square: Terms = &[
+        (1, [(1, 1), (0, 1)]),
+        (1, [(1, 1), (0, 0)]),
+        (1, [(0, 1), (0, 0)]),
+        (1, [(0, 0), (0, 0)]),
+    ];
     assert_eq!(rt;
         product(
             alloc,
-            SQUARE,
-            SQUARE,
+            square,
+            square,
             &[
                 (1, [(1, 2), (0, 2)]),
                 (2, [(1, 2), (0, 1)]),
@@ -101,17 +84,17 @@ fn dense_products(rt: HostRuntime) -> Result<(), Fail> {
         )?,
         Came::Expected
     );
-    assert_eq!(rt; combination(alloc, SQUARE, SQUARE, &[])?, Came::Expected);
+    assert_eq!(rt; combination(alloc, square, square, &[])?, Came::Expected);
     assert_eq!(rt;
         combination(
             alloc,
-            SQUARE,
+            square,
             &[
                 (1, [(1, 1), (0, 1)]),
                 (1, [(1, 1), (0, 0)]),
                 (1, [(0, 1), (0, 0)])
             ],
-            SQUARE
+            square
         )?,
         Came::Expected
     );
@@ -141,11 +124,23 @@ fn heavy_products(rt: HostRuntime) -> Result<(), Fail> {
 #[test]
 fn high_products(rt: HostRuntime) -> Result<(), Fail> {
     let alloc = rt.alloc();
+    let high: Terms = &[
+        (1, [(0, 32767), (0, 0)]),
+        (1, [(0, 2), (0, 0)]),
+        (1, [(0, 1), (0, 0)]),
+        (1, [(0, 0), (0, 0)]),
+    ];
+    let higher: Terms = &[
+        (1, [(0, 32768), (0, 0)]),
+        (1, [(0, 2), (0, 0)]),
+        (1, [(0, 1), (0, 0)]),
+        (1, [(0, 0), (0, 0)]),
+    ];
     assert_eq!(rt;
         product(
             alloc,
-            HIGH,
-            HIGH,
+            high,
+            high,
             &[
                 (1, [(0, 65534), (0, 0)]),
                 (2, [(0, 32769), (0, 0)]),
@@ -160,12 +155,12 @@ fn high_products(rt: HostRuntime) -> Result<(), Fail> {
         )?,
         Came::Expected
     );
-    assert_eq!(rt; product(alloc, HIGHER, HIGHER, &[])?, Came::Degree(0));
+    assert_eq!(rt; product(alloc, higher, higher, &[])?, Came::Degree(0));
     assert_eq!(rt;
         product(
             alloc,
-            HIGH,
-            HIGHER,
+            high,
+            higher,
             &[
                 (1, [(0, 65535), (0, 0)]),
                 (1, [(0, 32770), (0, 0)]),
@@ -187,6 +182,7 @@ fn high_products(rt: HostRuntime) -> Result<(), Fail> {
 #[test]
 fn eight_variables(rt: HostRuntime) -> Result<(), Fail> {
     let alloc = rt.alloc();
+    let two: Terms = &[(1, [(1, 1), (0, 0)]), (-1, [(0, 1), (0, 0)])];
     assert_eq!(rt;
         product(
             alloc,
@@ -200,7 +196,7 @@ fn eight_variables(rt: HostRuntime) -> Result<(), Fail> {
                 (1, [(1, 1), (0, 0)]),
                 (1, [(0, 1), (0, 0)])
             ],
-            TWO,
+            two,
             &[
                 (2, [(7, 1), (1, 1)]),
                 (-2, [(7, 1), (0, 1)]),
@@ -226,6 +222,7 @@ fn eight_variables(rt: HostRuntime) -> Result<(), Fail> {
 #[test]
 fn nine_variables(rt: HostRuntime) -> Result<(), Fail> {
     let alloc = rt.alloc();
+    let two: Terms = &[(1, [(1, 1), (0, 0)]), (-1, [(0, 1), (0, 0)])];
     assert_eq!(rt;
         product(
             alloc,
@@ -240,7 +237,7 @@ fn nine_variables(rt: HostRuntime) -> Result<(), Fail> {
                 (1, [(1, 1), (0, 0)]),
                 (1, [(0, 1), (0, 0)])
             ],
-            TWO,
+            two,
             &[
                 (2, [(8, 1), (1, 1)]),
                 (-2, [(8, 1), (0, 1)]),
