@@ -38,6 +38,8 @@ pub fn poly_of(alloc: Global, terms: Terms) -> Result<Poly, PolyFault> {
 }
 
 #[cfg(test)]
+mod dense;
+#[cfg(test)]
 mod forms;
 #[cfg(test)]
 mod monomials;

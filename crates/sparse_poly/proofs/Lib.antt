@@ -16,3 +16,8 @@ pub mod Strips
 pub mod Powers
 pub mod Units
 pub mod InOrder
+pub mod Words
+pub mod Layouts
+pub mod Packings
+pub mod PackedTerms
+pub mod PackedSqueezes

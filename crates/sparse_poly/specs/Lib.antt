@@ -6,3 +6,5 @@ pub mod Units
 pub mod Reads
 pub mod Standing
 pub mod Factors
+pub mod Packing
+pub mod Packed

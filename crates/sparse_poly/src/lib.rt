@@ -14,8 +14,11 @@ ghost use Rattle.sparse_poly.specs.Reads.{degree_in, main_variable, coefficient_
 mod entry;
 mod falling;
 pub mod laws;
+mod layout;
 mod merging;
 mod multiplying;
+mod packed_entry;
+mod packing;
 mod squeezing;
 mod stripping;
 

@@ -8,6 +8,7 @@ ghost use Rattle.sparse_poly.specs.Standing.{Agree, Stands, AllMonomials, IsDesc
 
 use crate::entry::Share;
 use crate::merging::{merge, sorted};
+use crate::packing::{layout_for, packed_combination};
 use crate::squeezing::squeeze;
 use crate::{PolyFault, Term};
 use monomial::{MonoFault, Monomial};
@@ -27,6 +28,9 @@ pub fn combined(
     requires p_poly { IsPoly p.now }
     ensures { MatchResult result (λ v. IsResult (contributions l.now q.now a.now p.now) v.items) (IsFault (contributions l.now q.now a.now p.now)) }
 {
+    if let Some(layout) = layout_for(l, q, a, p) {
+        return packed_combination(alloc, &layout, l, q, a, p);
+    }
     let mut high = None;
     let first = part(alloc, l, q, false, &mut high)?;
     let second = part(alloc, a, p, true, &mut high)?;
@@ -45,6 +49,9 @@ pub fn multiplied(alloc: Global, first: &[Term], second: &[Term]) -> Result<Vec<
     requires second_poly { IsPoly second.now }
     ensures { MatchResult result (λ v. IsResult (products first.now second.now) v.items) (IsFault (products first.now second.now)) }
 {
+    if let Some(layout) = layout_for(first, second, &[], &[]) {
+        return packed_combination(alloc, &layout, first, second, &[], &[]);
+    }
     let half = first.len() / 2;
     let mut high = None;
     let front = part(alloc, &first[..half], second, false, &mut high)?;
@@ -117,8 +124,8 @@ fn gathered(alloc: Global, terms: Vec<Term>) -> Result<Vec<Share>, AllocError>
     Ok(shares)
 }
 
-// The product of two coefficients with its sign, or the least number where it is out of range.
-fn kept_product(x: i128, y: i128, minus: bool) -> i128
+/// The product of two coefficients with its sign, or the least number where it is out of range.
+pub fn kept_product(x: i128, y: i128, minus: bool) -> i128
     ensures { result ≡ kept (signed minus (x *ℤ y)) }
 {
     if let (Ok(x), Ok(y)) = (i64::try_from(x), i64::try_from(y)) {

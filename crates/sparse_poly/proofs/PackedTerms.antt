@@ -1,0 +1,184 @@
+-- Packed terms of a layout: what their products are read as.
+use Rattle.std.specs.Prelude.{◌≡◌, ◌≢◌, ◌<◌, ◌≤◌, ℕ, ◌+◌, ◌*◌, ◌^◌, Bool, true, false, ◌==◌, List, [], ◌∷◌, ◌++◌, length, take, slice_index_or, refl}
+use mathlib.Core.Logic.{◌⊎◌, inl, inr}
+use Rattle.std.proofs.Common.{arith, sym, ◌∙◌, ap, subst}
+use Rattle.std.proofs.lemmas.Bool.{cases_lt, cases_order}
+use Rattle.std.proofs.lemmas.Bool.Decides.{eqb_tells}
+use Rattle.std.specs.List.{AllByRecursion, Contains}
+use Rattle.std.specs.Ordering.{ordering_reverse}
+use Rattle.std.specs.Cmp.{tied_itself}
+use Rattle.std.specs.declared.cmp.Ordering.TheVariants.{Less, Equal}
+use Rattle.std.specs.declared.option.Option.TheVariants.{None}
+use Rattle.monomial.specs.Monomials.{exponent, monomial_times, monomial_cmp, too_high, IsPowers, IsMonomial}
+use Rattle.monomial.proofs.Exponents.{exponent_here, exponent_there, exponent-times, IsPowers-times, too_high-IsMonomial}
+use Rattle.monomial.proofs.Total.{monomial_cmp-IsTotalOrder}
+use Rattle.sparse_poly.specs.declared.Term.{Term}
+use Rattle.sparse_poly.specs.declared.packed_entry.PackedTerm.{PackedTerm}
+use Rattle.sparse_poly.specs.declared.packed_entry.PackedShare.{PackedShare}
+use Rattle.sparse_poly.specs.Polynomials.{row, products, negated}
+use Rattle.sparse_poly.specs.Contributions.{signed_products, higher, degree_of, IsFalling}
+use Rattle.sparse_poly.specs.Standing.{Stands, AllBelow, IsDescending}
+use Rattle.sparse_poly.specs.Packing.{AreFalling, IsLayout, word_of, monomial_of, FitsLayout}
+use Rattle.sparse_poly.specs.Packed.{term_read, terms_read, shares_read, term_words, share_words, AreProducts, AllPackedIn, IsPackedIn, AllUnder, AllHalves, IsPackedProduct}
+use Rattle.sparse_poly.proofs.Adding.{degree_of-append}
+use Rattle.sparse_poly.proofs.Descending.{all_map, all_more}
+use Rattle.sparse_poly.proofs.Words.{word_of-times, word_half, monomial_of-word, IsPowers-monomial_of, IsMonomial-monomial_of, lower_monomial}
+use Rattle.sparse_poly.proofs.Layouts.{take_more, take_all}
+use Rattle.sparse_poly.proofs.Packings.{terms_read-append}
+
+-- exponents of what fits a layout
+pub fits_small : (vs : List ℕ) (m : List (ℕ × ℕ)) (v : ℕ) → FitsLayout vs m → exponent m v ≤ 32767
+fits_small vs [] v h = omega arith
+fits_small vs (p ∷ ps) v h = each (fits_small vs ps v h.1) (eqb_tells p.0 v)
+  where
+    each : exponent ps v ≤ 32767 → ((p.0 == v ≡ true) × (p.0 ≡ v)) ⊎ ((p.0 == v ≡ false) × (p.0 ≢ v)) → exponent (p ∷ ps) v ≤ 32767
+    each rest (inl (t, e)) = omega (arith, exponent_here p ps v e, h.0.1)
+    each rest (inr (t, n)) = omega (arith, exponent_there p ps v n)
+
+fits_known : (vs : List ℕ) (m : List (ℕ × ℕ)) (v : ℕ) → FitsLayout vs m → 0 < exponent m v → Contains vs v
+fits_known vs [] v h l = absurd (omega arith)
+fits_known vs (p ∷ ps) v h l = each (fits_known vs ps v h.1) (eqb_tells p.0 v)
+  where
+    each : (0 < exponent ps v → Contains vs v) → ((p.0 == v ≡ true) × (p.0 ≡ v)) ⊎ ((p.0 == v ≡ false) × (p.0 ≢ v)) → Contains vs v
+    each rest (inl (t, e)) = subst (Contains vs) e h.0.0
+    each rest (inr (t, n)) = rest (subst (λ k. 0 < k) (exponent_there p ps v n) l)
+
+fitting_monomial : (vs : List ℕ) (m : List (ℕ × ℕ)) (w : ℕ) → IsLayout vs → IsPowers m → FitsLayout vs m → w ≡ word_of vs m → monomial_of vs w ≡ m
+fitting_monomial vs m w y h f e =
+    monomial_of-word vs m w y.falling h (λ v. let small = fits_small vs m v f in omega arith) (λ v l. fits_known vs m v f l) e
+
+-- the first k terms, packed
+pub record PackedSoFar (vs : List ℕ) (ts : List Term) (k : ℕ) (out : List PackedTerm) : Type 0 where
+  pub terms : terms_read (monomial_of vs) out ≡ take k ts
+  pub words : AllPackedIn vs out
+
+pub PackedSoFar-start : (vs : List ℕ) (ts : List Term) → PackedSoFar vs ts 0 []
+PackedSoFar-start vs ts = record { terms = refl; words = tt }
+
+pub PackedSoFar-more : (vs : List ℕ) (ts : List Term) (k : ℕ) (t : Term) (p : PackedTerm) (out : List PackedTerm) → IsLayout vs → k < length ts → t ≡ slice_index_or ts k t → IsMonomial t.monomial → FitsLayout vs t.monomial → p.word ≡ word_of vs t.monomial → p.coeff ≡ t.coeff → PackedSoFar vs ts k out → PackedSoFar vs ts (k + 1) (out ++ p ∷ [])
+PackedSoFar-more vs ts k t p out y h e i f w c g = record {
+  terms = terms_read-append (monomial_of vs) out (p ∷ []) ∙ ap (λ us. us ++ term_read (monomial_of vs) p ∷ []) g.terms ∙ ap (λ u. take k ts ++ u ∷ []) whole ∙ sym (take_more ts k t h e);
+  words = all_more (λ (q : PackedTerm). IsPackedIn vs q) out p g.words (record { word = w ∙ ap (word_of vs) (sym same); fits = subst (FitsLayout vs) (sym same) f });
+}
+  where
+    same : monomial_of vs p.word ≡ t.monomial
+    same = fitting_monomial vs t.monomial p.word y i.powers f w
+
+    whole : term_read (monomial_of vs) p ≡ t
+    whole = ap (λ m. (let u : Term = record { monomial = m; coeff = p.coeff } in u)) same ∙ ap (λ z. (let u : Term = record { monomial = t.monomial; coeff = z } in u)) c
+
+pub PackedSoFar-end : (vs : List ℕ) (ts : List Term) (k : ℕ) (out : List PackedTerm) → length ts ≤ k → PackedSoFar vs ts k out → terms_read (monomial_of vs) out ≡ ts
+PackedSoFar-end vs ts k out h g = g.terms ∙ take_all ts k h
+
+-- products of packed terms
+one_product : (vs : List ℕ) (t u : PackedTerm) → IsLayout vs → IsPackedIn vs t → IsPackedIn vs u → monomial_of vs (t.word + u.word) ≡ monomial_times (monomial_of vs t.word) (monomial_of vs u.word)
+one_product vs t u y a b =
+    monomial_of-word vs (monomial_times m n) (t.word + u.word) y.falling (IsPowers-times m n h i) small known (pair a.word b.word ∙ sym (word_of-times vs m n h i))
+  where
+    m : List (ℕ × ℕ)
+    m = monomial_of vs t.word
+
+    n : List (ℕ × ℕ)
+    n = monomial_of vs u.word
+
+    h : IsPowers m
+    h = IsPowers-monomial_of vs t.word y.falling
+
+    i : IsPowers n
+    i = IsPowers-monomial_of vs u.word y.falling
+
+    small : (v : ℕ) → exponent (monomial_times m n) v ≤ 65535
+    small v = omega (arith, exponent-times m n v h i, fits_small vs m v a.fits, fits_small vs n v b.fits)
+
+    known : (v : ℕ) → 0 < exponent (monomial_times m n) v → Contains vs v
+    known v l = each (cases_lt 0 (exponent m v))
+      where
+        each : (0 < exponent m v) ⊎ (exponent m v ≤ 0) → Contains vs v
+        each (inl k) = fits_known vs m v a.fits k
+        each (inr k) = fits_known vs n v b.fits (omega (arith, exponent-times m n v h i, l, k))
+
+    pair : (x : t.word ≡ word_of vs m) → u.word ≡ word_of vs n → t.word + u.word ≡ word_of vs m + word_of vs n
+    pair e f = omega arith
+
+are_products : (vs : List ℕ) (ts us : List PackedTerm) → IsLayout vs → AllPackedIn vs ts → AllPackedIn vs us → AreProducts (monomial_of vs) ts us
+are_products vs ts us y a b =
+    all_map (λ (t : PackedTerm). IsPackedIn vs t) (λ (t : PackedTerm). AllByRecursion (λ (u : PackedTerm). monomial_of vs (t.word + u.word) ≡ monomial_times (monomial_of vs t.word) (monomial_of vs u.word)) us) ts
+    (λ t h. all_map (λ (u : PackedTerm). IsPackedIn vs u) (λ (u : PackedTerm). monomial_of vs (t.word + u.word) ≡ monomial_times (monomial_of vs t.word) (monomial_of vs u.word)) us (λ u i. one_product vs t u y h i) b) a
+
+-- no product is of too high degree
+degree_of-negated : (cs : List Term) → degree_of (negated cs) ≡ degree_of cs
+degree_of-negated [] = refl
+degree_of-negated (c ∷ cs) = ap (higher (too_high c.monomial)) (degree_of-negated cs)
+
+degree_of-row : (vs : List ℕ) (t : PackedTerm) (us : List PackedTerm) → IsLayout vs → IsPackedIn vs t → AllPackedIn vs us → degree_of (row (term_read (monomial_of vs) t) (terms_read (monomial_of vs) us)) ≡ None
+degree_of-row vs t [] y a b = refl
+degree_of-row vs t (u ∷ us) y a b =
+    ap (λ o. higher o (degree_of (row (term_read (monomial_of vs) t) (terms_read (monomial_of vs) us)))) (too_high-IsMonomial _ (subst IsMonomial (one_product vs t u y a b.0) (IsMonomial-monomial_of vs (t.word + u.word) y)))
+    ∙ degree_of-row vs t us y a b.1
+
+degree_of-products : (vs : List ℕ) (ts us : List PackedTerm) → IsLayout vs → AllPackedIn vs ts → AllPackedIn vs us → degree_of (products (terms_read (monomial_of vs) ts) (terms_read (monomial_of vs) us)) ≡ None
+degree_of-products vs [] us y a b = refl
+degree_of-products vs (t ∷ ts) us y a b =
+    degree_of-append (row (term_read (monomial_of vs) t) (terms_read (monomial_of vs) us)) _
+    ∙ ap (λ o. higher o (degree_of (products (terms_read (monomial_of vs) ts) (terms_read (monomial_of vs) us)))) (degree_of-row vs t us y a.0 b)
+    ∙ degree_of-products vs ts us y a.1 b
+
+degree_of-signed : (b : Bool) (ts us : List Term) → degree_of (products ts us) ≡ None → degree_of (signed_products b ts us) ≡ None
+degree_of-signed false ts us e = e
+degree_of-signed true ts us e = degree_of-negated (products ts us) ∙ e
+
+-- words fall where monomials do
+falling_one : (vs : List ℕ) (t u : PackedTerm) → IsLayout vs → IsPackedIn vs t → IsPackedIn vs u → monomial_cmp (monomial_of vs u.word) (monomial_of vs t.word) ≡ Less → u.word < t.word
+falling_one vs t u y a b l = each (cases_order u.word t.word)
+  where
+    below : u.word < 2 ^ (16 * length vs)
+    below = let half = word_half vs (monomial_of vs u.word) (λ v. fits_small vs _ v b.fits) in let same = b.word in twice (word_of vs (monomial_of vs u.word)) half same
+      where
+        twice : (w : ℕ) → w + w < 2 ^ (16 * length vs) → u.word ≡ w → u.word < 2 ^ (16 * length vs)
+        twice w h e = omega arith
+
+    each : (u.word ≡ t.word) ⊎ ((u.word < t.word) ⊎ (t.word < u.word)) → u.word < t.word
+    each (inl e) = absurd (never (sym l ∙ ap (λ w. monomial_cmp (monomial_of vs u.word) (monomial_of vs w)) (sym e) ∙ tied_itself monomial_cmp-IsTotalOrder (monomial_of vs u.word)))
+      where
+        never : Less ≡ Equal → ⊥
+        never e = cc e
+    each (inr (inl k)) = k
+    each (inr (inr k)) = absurd (never (sym (monomial_cmp-IsTotalOrder.antisymm (monomial_of vs u.word) (monomial_of vs t.word) ∙ ap ordering_reverse (lower_monomial vs t.word u.word y.falling below k)) ∙ l))
+      where
+        never : ordering_reverse Less ≡ Less → ⊥
+        never e = cc e
+
+falling_words : (vs : List ℕ) (us : List PackedTerm) → IsLayout vs → AllPackedIn vs us → IsFalling (terms_read (monomial_of vs) us) → AreFalling (term_words us)
+falling_words vs [] y a f = tt
+falling_words vs (t ∷ us) y a f = (under us a.1 f.0, falling_words vs us y a.1 f.1)
+  where
+    under : (us : List PackedTerm) → AllPackedIn vs us → AllByRecursion (λ (u : Term). monomial_cmp u.monomial (monomial_of vs t.word) ≡ Less) (terms_read (monomial_of vs) us) → AllByRecursion (λ w. w < t.word) (term_words us)
+    under [] b h = tt
+    under (u ∷ us) b h = (falling_one vs t u y a.0 b.0 h.0, under us b.1 h.1)
+
+halves_of : (vs : List ℕ) (ts : List PackedTerm) → AllPackedIn vs ts → AllHalves (2 ^ (16 * length vs)) (term_words ts)
+halves_of vs [] a = tt
+halves_of vs (t ∷ ts) a = (subst (λ w. w + w < 2 ^ (16 * length vs)) (sym a.0.word) (word_half vs (monomial_of vs t.word) (λ v. fits_small vs _ v a.0.fits)), halves_of vs ts a.1)
+
+-- the product of two lists of packed terms
+module _ (vs : List ℕ) (minus : Bool) (ts us : List Term) (ps qs : List PackedTerm) (ss : List PackedShare) (y : IsLayout vs) (e : terms_read (monomial_of vs) ps ≡ ts) (f : terms_read (monomial_of vs) qs ≡ us) (a : AllPackedIn vs ps) (b : AllPackedIn vs qs) (g : IsPackedProduct minus ps qs ss) where
+  pub product_stands : Stands (shares_read (monomial_of vs) ss) (signed_products minus ts us)
+  product_stands = subst (λ xs. Stands (shares_read (monomial_of vs) ss) (signed_products minus xs us)) e (subst (λ xs. Stands (shares_read (monomial_of vs) ss) (signed_products minus (terms_read (monomial_of vs) ps) xs)) f (g.sums (monomial_of vs) (are_products vs ps qs y a b)))
+
+  pub product_degree : degree_of (signed_products minus ts us) ≡ None
+  product_degree = subst (λ xs. degree_of (signed_products minus xs us) ≡ None) e (subst (λ xs. degree_of (signed_products minus (terms_read (monomial_of vs) ps) xs) ≡ None) f (degree_of-signed minus _ _ (degree_of-products vs ps qs y a b)))
+
+  pub product_falling : IsFalling us → AreFalling (share_words ss)
+  product_falling h = g.falling (falling_words vs qs y b (subst IsFalling (sym f) h))
+
+  pub product_under : AllUnder (2 ^ (16 * length vs)) (share_words ss)
+  product_under = g.under (2 ^ (16 * length vs)) (halves_of vs ps a) (halves_of vs qs b)
+
+-- falling words are read as falling monomials
+pub IsDescending-read : (vs : List ℕ) (ss : List PackedShare) → IsLayout vs → AreFalling (share_words ss) → AllUnder (2 ^ (16 * length vs)) (share_words ss) → IsDescending (shares_read (monomial_of vs) ss)
+IsDescending-read vs [] y f l = tt
+IsDescending-read vs (s ∷ ss) y f l = (below ss f.0, IsDescending-read vs ss y f.1 l.1)
+  where
+    below : (ss : List PackedShare) → AllByRecursion (λ w. w < s.word) (share_words ss) → AllBelow (monomial_of vs s.word) (shares_read (monomial_of vs) ss)
+    below [] h = tt
+    below (t ∷ ss) h = (lower_monomial vs t.word s.word y.falling l.0 h.0, below ss h.1)

@@ -1,0 +1,9 @@
+use Rattle.std.proofs.Common.{length, ◌+◌, ◌-◌}
+use Rattle.sparse_poly.proofs.Packings.{PackedMerging}
+use Rattle.sparse_poly.proofs.packing.merge.Given as goal
+
+abbrev pub invariant-both : goal.invariant-both
+invariant-both l = PackedMerging l.first l.second l.i l.j l.shares.items
+
+abbrev pub decreases-both : goal.decreases-both
+decreases-both l = (length l.first - l.i) + (length l.second - l.j)

@@ -1,0 +1,19 @@
+//! Terms and sums of contributions whose monomials are words.
+ghost use Rattle.std.specs.Prelude.{◌<◌, ◌≤◌, ◌^◌, unsigned_abs};
+
+/// A term whose monomial is a word.
+#[derive(Clone, Copy)]
+pub struct PackedTerm {
+    pub word: u128,
+    pub coeff: i128,
+    ghost small: { word < 2 ^ 127 },
+}
+
+/// A sum of contributions to the monomial of a word, with that of their absolute values. A weight above the limit stands for all those.
+#[derive(Clone, Copy)]
+pub struct PackedShare {
+    pub word: u128,
+    pub sum: i128,
+    pub weight: u128,
+    ghost within: { unsigned_abs sum ≤ weight },
+}

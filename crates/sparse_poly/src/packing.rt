@@ -1,0 +1,227 @@
+//! Products of polynomials whose monomials are words.
+ghost use Rattle.std.specs.Prelude.{◌≡◌, ◌<◌, ◌^◌, ◌≤◌, ◌+◌, ◌*◌, ◌+ℤ◌, ◌*ℤ◌, [], ◌∷◌, length, unsigned_abs, IfOk, IfSome, MatchResult};
+ghost use Rattle.std.specs.declared.option.Option.TheVariants.{None};
+ghost use Rattle.sparse_poly.specs.Contributions.{signed, degree_of, signed_products, contributions, IsPoly, IsResult, IsFault};
+ghost use Rattle.sparse_poly.specs.Standing.{Agree, Stands, IsDescending, IsLightSum, IsHeavyFault};
+ghost use Rattle.sparse_poly.specs.Packing.{monomial_of, IsLayout, AllFit, AreFalling};
+ghost use Rattle.sparse_poly.specs.Packed.{terms_read, shares_read, share_words, AllPackedIn, AllUnder, IsPackedProduct, IsPackedMerge};
+
+use crate::layout::Layout;
+use crate::multiplying::kept_product;
+use crate::packed_entry::{PackedShare, PackedTerm};
+use crate::{PolyFault, Term};
+use std::alloc::{AllocError, Global};
+use std::cmp::Ordering;
+
+/// The layout for `l*q - a*p`, and `None` where words don't serve: where there are less than 16 contributions, more than eight variables, or
+/// an exponent above 32,767.
+pub fn layout_for(l: &[Term], q: &[Term], a: &[Term], p: &[Term]) -> Option<Layout>
+    ensures layout { IfSome result (λ y. IsLayout y.variables.items) }
+    ensures l { IfSome result (λ y. AllFit y.variables.items l.now) }
+    ensures q { IfSome result (λ y. AllFit y.variables.items q.now) }
+    ensures a { IfSome result (λ y. AllFit y.variables.items a.now) }
+    ensures p { IfSome result (λ y. AllFit y.variables.items p.now) }
+{
+    let first = l.len().saturating_mul(q.len());
+    let second = a.len().saturating_mul(p.len());
+    if first.saturating_add(second) < 16 {
+        return None;
+    }
+    Layout::of(l, q, a, p)
+}
+
+/// The terms of `l*q - a*p`, by words.
+pub fn packed_combination(
+    alloc: Global,
+    layout: &Layout,
+    l: &[Term],
+    q: &[Term],
+    a: &[Term],
+    p: &[Term],
+) -> Result<Vec<Term>, PolyFault>
+    requires layout { IsLayout layout.now.variables.items }
+    requires l_poly { IsPoly l.now }
+    requires q_poly { IsPoly q.now }
+    requires a_poly { IsPoly a.now }
+    requires p_poly { IsPoly p.now }
+    requires l_fits { AllFit layout.now.variables.items l.now }
+    requires q_fits { AllFit layout.now.variables.items q.now }
+    requires a_fits { AllFit layout.now.variables.items a.now }
+    requires p_fits { AllFit layout.now.variables.items p.now }
+    ensures { MatchResult result (λ v. IsResult (contributions l.now q.now a.now p.now) v.items) (IsFault (contributions l.now q.now a.now p.now)) }
+{
+    let first = packed_product(alloc, layout, l, q, false)?;
+    let second = packed_product(alloc, layout, a, p, true)?;
+    let shares = merge(alloc, &first, &second)?;
+    squeeze(alloc, layout, &shares)
+}
+
+// The contributions to a product.
+fn packed_product(
+    alloc: Global,
+    layout: &Layout,
+    ts: &[Term],
+    us: &[Term],
+    minus: bool,
+) -> Result<Vec<PackedShare>, AllocError>
+    requires layout { IsLayout layout.now.variables.items }
+    requires ts_poly { IsPoly ts.now }
+    requires us_poly { IsPoly us.now }
+    requires ts_fits { AllFit layout.now.variables.items ts.now }
+    requires us_fits { AllFit layout.now.variables.items us.now }
+    ensures sums { IfOk result (λ v. Stands (shares_read (monomial_of layout.now.variables.items) v.items) (signed_products minus ts.now us.now)) }
+    ensures degree { IfOk result (λ _. degree_of (signed_products minus ts.now us.now) ≡ None) }
+    ensures falling { IfOk result (λ v. AreFalling (share_words v.items)) }
+    ensures under { IfOk result (λ v. AllUnder (2 ^ (16 * length layout.now.variables.items)) (share_words v.items)) }
+{
+    let ts = packed(alloc, layout, ts)?;
+    let us = packed(alloc, layout, us)?;
+    part(alloc, &ts, &us, minus)
+}
+
+// Terms with their words.
+fn packed(alloc: Global, layout: &Layout, terms: &[Term]) -> Result<Vec<PackedTerm>, AllocError>
+    requires layout { IsLayout layout.now.variables.items }
+    requires poly { IsPoly terms.now }
+    requires fits { AllFit layout.now.variables.items terms.now }
+    ensures terms { IfOk result (λ v. terms_read (monomial_of layout.now.variables.items) v.items ≡ terms.now) }
+    ensures words { IfOk result (λ v. AllPackedIn layout.now.variables.items v.items) }
+{
+    let mut packed = Vec::with_capacity(alloc, terms.len())?;
+    for term in terms {
+        packed.push(PackedTerm {
+            word: layout.word(&term.monomial),
+            coeff: term.coeff,
+        })?;
+    }
+    Ok(packed)
+}
+
+// The contributions to a product, by halves of the first factor.
+fn part(
+    alloc: Global,
+    ts: &[PackedTerm],
+    us: &[PackedTerm],
+    minus: bool,
+) -> Result<Vec<PackedShare>, AllocError>
+    ensures { IfOk result (λ v. IsPackedProduct minus ts.now us.now v.items) }
+{
+    let n = ts.len();
+    if n == 0 {
+        return Ok(Vec::new(alloc));
+    }
+    if n == 1 {
+        return row_of(alloc, ts[0], us, minus);
+    }
+    let first = part(alloc, &ts[..n / 2], us, minus)?;
+    let second = part(alloc, &ts[n / 2..], us, minus)?;
+    merge(alloc, &first, &second)
+}
+
+// The contributions of one term.
+fn row_of(
+    alloc: Global,
+    t: PackedTerm,
+    us: &[PackedTerm],
+    minus: bool,
+) -> Result<Vec<PackedShare>, AllocError>
+    ensures { IfOk result (λ v. IsPackedProduct minus (t ∷ []) us.now v.items) }
+{
+    let mut shares = Vec::with_capacity(alloc, us.len())?;
+    for u in us {
+        shares.push(share_of(t, *u, minus))?;
+    }
+    Ok(shares)
+}
+
+// The share of one contribution.
+fn share_of(t: PackedTerm, u: PackedTerm, minus: bool) -> PackedShare
+    ensures word { result.word ≡ t.word + u.word }
+    ensures sum { Agree result.weight result.sum (unsigned_abs (signed minus (t.coeff *ℤ u.coeff))) (signed minus (t.coeff *ℤ u.coeff)) }
+{
+    let sum = kept_product(t.coeff, u.coeff, minus);
+    PackedShare {
+        word: t.word + u.word,
+        sum,
+        weight: sum.unsigned_abs(),
+    }
+}
+
+// Two falling lists as one.
+fn merge(
+    alloc: Global,
+    first: &[PackedShare],
+    second: &[PackedShare],
+) -> Result<Vec<PackedShare>, AllocError>
+    ensures { IfOk result (λ v. IsPackedMerge first.now second.now v.items) }
+{
+    let mut shares = Vec::with_capacity(alloc, first.len().saturating_add(second.len()))?;
+    let mut i = 0;
+    let mut j = 0;
+    'both: while i < first.len() && j < second.len() {
+        let x = first[i];
+        let y = second[j];
+        match x.word.cmp(&y.word) {
+            Ordering::Less => {
+                shares.push(y)?;
+                j += 1;
+            }
+            Ordering::Equal => {
+                shares.push(joined(x, y))?;
+                i += 1;
+                j += 1;
+            }
+            Ordering::Greater => {
+                shares.push(x)?;
+                i += 1;
+            }
+        }
+    }
+    shares.extend_from_slice(&first[i..])?;
+    shares.extend_from_slice(&second[j..])?;
+    Ok(shares)
+}
+
+// Two shares of one word as one.
+fn joined(x: PackedShare, y: PackedShare) -> PackedShare
+    ensures word { result.word ≡ x.word }
+    ensures sum { Agree result.weight result.sum (x.weight + y.weight) (x.sum +ℤ y.sum) }
+{
+    let weight = x.weight.saturating_add(y.weight);
+    if weight > i128::MAX as u128 {
+        return PackedShare {
+            word: x.word,
+            sum: 0,
+            weight: u128::MAX,
+        };
+    }
+    PackedShare {
+        word: x.word,
+        sum: x.sum + y.sum,
+        weight,
+    }
+}
+
+// The sums of falling shares.
+fn squeeze(alloc: Global, layout: &Layout, shares: &[PackedShare]) -> Result<Vec<Term>, PolyFault>
+    requires layout { IsLayout layout.now.variables.items }
+    requires falling { IsDescending (shares_read (monomial_of layout.now.variables.items) shares.now) }
+    ensures { MatchResult result (λ v. IsLightSum (shares_read (monomial_of layout.now.variables.items) shares.now) v.items) (IsHeavyFault (shares_read (monomial_of layout.now.variables.items) shares.now)) }
+{
+    let mut terms = Vec::with_capacity(alloc, shares.len())?;
+    for share in shares {
+        if share.weight > i128::MAX as u128 {
+            let monomial = layout.monomial(alloc, share.word)?;
+            return Err(PolyFault::Heavy { monomial });
+        }
+        if share.sum == 0 {
+            continue;
+        }
+        let monomial = layout.monomial(alloc, share.word)?;
+        terms.push(Term {
+            monomial,
+            coeff: share.sum,
+        })?;
+    }
+    Ok(terms)
+}
