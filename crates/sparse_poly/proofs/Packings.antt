@@ -1,5 +1,5 @@
 -- Packed shares: their merges, and what the contributions to a product stand for.
-use Rattle.std.specs.Prelude.{◌≡◌, ◌<◌, ◌≤◌, ℕ, ◌+◌, ◌-◌, Bool, true, false, if◌then◌else◌, ℤ, pos, unsigned_abs, ◌+ℤ◌, ◌*ℤ◌, List, [], ◌∷◌, ◌++◌, length, drop, slice_index_or, refl}
+use Rattle.std.specs.Prelude.{zero, suc, ◌≡◌, ◌<◌, ◌≤◌, ℕ, ◌+◌, ◌-◌, Bool, true, false, if◌then◌else◌, ℤ, pos, unsigned_abs, ◌+ℤ◌, ◌*ℤ◌, List, [], ◌∷◌, ◌++◌, length, drop, slice_index_or, refl}
 use mathlib.Core.Logic.{◌⊎◌, inl, inr}
 use Rattle.std.proofs.Common.{arith, sym, ◌∙◌, ap, subst, append_assoc}
 use Rattle.std.proofs.lemmas.Int.{ints}
@@ -20,6 +20,12 @@ use Rattle.sparse_poly.proofs.Layouts.{drop_one, drop_end}
 
 pub drop_at : {X : Type 0} → (xs : List X) (k : ℕ) (x : X) → k < length xs → x ≡ slice_index_or xs k x → drop k xs ≡ x ∷ drop (k + 1) xs
 drop_at xs k x h e = drop_one xs k x h ∙ ap (λ y. y ∷ drop (k + 1) xs) (sym e)
+
+-- what two reads of one place give
+pub same_read : {X : Type 0} → (xs : List X) (k : ℕ) (x y : X) → k < length xs → x ≡ slice_index_or xs k x → y ≡ slice_index_or xs k y → x ≡ y
+same_read [] k x y h e f = absurd (omega arith)
+same_read (z ∷ zs) zero x y h e f = e ∙ sym f
+same_read (z ∷ zs) (suc k) x y h e f = same_read zs k x y (omega arith) e f
 
 -- merges
 merge_none : (ys : List PackedShare) → IsPackedMerge [] ys ys

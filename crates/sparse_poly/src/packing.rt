@@ -13,7 +13,7 @@ use crate::{PolyFault, Term};
 use std::alloc::{AllocError, Global};
 use std::cmp::Ordering;
 
-/// The layout for `l*q - a*p`, and `None` where words don't serve: where there are less than 16 contributions, more than eight variables, or
+/// The layout for `l*q - a*p`, and `None` where words don't serve: where there are fewer than 16 contributions, more than eight variables, or
 /// an exponent above 32,767.
 pub fn layout_for(l: &[Term], q: &[Term], a: &[Term], p: &[Term]) -> Option<Layout>
     ensures layout { IfSome result (λ y. IsLayout y.variables.items) }
@@ -159,20 +159,18 @@ fn merge(
     let mut i = 0;
     let mut j = 0;
     'both: while i < first.len() && j < second.len() {
-        let x = first[i];
-        let y = second[j];
-        match x.word.cmp(&y.word) {
+        match first[i].word.cmp(&second[j].word) {
             Ordering::Less => {
-                shares.push(y)?;
+                shares.push(second[j])?;
                 j += 1;
             }
             Ordering::Equal => {
-                shares.push(joined(x, y))?;
+                shares.push(joined(first[i], second[j]))?;
                 i += 1;
                 j += 1;
             }
             Ordering::Greater => {
-                shares.push(x)?;
+                shares.push(first[i])?;
                 i += 1;
             }
         }

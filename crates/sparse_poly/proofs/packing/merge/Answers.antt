@@ -1,24 +1,32 @@
-use Rattle.std.proofs.Common.{arith, rules, ◌≡◌, ◌<◌, ◌≤◌, ◌++◌, length, take, drop, ◌-◌, ap, ◌∙◌}
+use Rattle.std.proofs.Common.{arith, rules, ◌≡◌, ◌<◌, ◌≤◌, ◌++◌, ◌-◌, length, take, drop, sym, ap, subst, ◌∙◌}
 use Rattle.std.proofs.lemmas.Slice.{between_to_end}
 use mathlib.Core.Logic.{◌⊎◌, inl, inr}
-use Rattle.sparse_poly.proofs.Packings.{PackedMerging-first, PackedMerging-second, PackedMerging-both, PackedMerging-end}
+use Rattle.sparse_poly.specs.declared.packed_entry.PackedShare.{PackedShare}
+use Rattle.sparse_poly.proofs.Packings.{same_read, PackedMerging-first, PackedMerging-second, PackedMerging-both, PackedMerging-end}
 use Rattle.sparse_poly.proofs.packing.merge.Goals.{then-both-test+else-j-second, else-both-test}
 use Rattle.sparse_poly.proofs.packing.merge.Goals as goal
 
 pub both-preserved-in-Less : goal.both-preserved-in-Less
 both-preserved-in-Less c =
-    let less : c.index-first-i.result.word < c.index-second-j.result.word = search rules in
-    rw c.in_ok-push-in-Less.ensures.items (PackedMerging-second _ _ c.both.shares.items c.both.i c.both.j c.index-first-i.result c.index-second-j.result c.both-test.true c.if-j-second.true c.index-first-i.is c.index-second-j.is less c.both.invariant)
+    let raw : c.index-first-i.result.word < c.index-second-j.result.word = search rules in
+    let same = same_read c.args.second.now c.both.j c.index-second-j.result c.index-second-j-in-Less.result c.if-j-second.true c.index-second-j.is c.index-second-j-in-Less.is in
+    let less = subst (λ (s : PackedShare). c.index-first-i.result.word < s.word) same raw in
+    rw c.in_ok-push-in-Less.ensures.items (PackedMerging-second _ _ c.both.shares.items c.both.i c.both.j c.index-first-i.result c.index-second-j-in-Less.result c.both-test.true c.if-j-second.true c.index-first-i.is c.index-second-j-in-Less.is less c.both.invariant)
 
 pub both-preserved-in-Equal : goal.both-preserved-in-Equal
 both-preserved-in-Equal c =
-    let same : c.index-first-i.result.word ≡ c.index-second-j.result.word = search rules in
-    rw c.in_ok-push-in-Equal.ensures.items (PackedMerging-both _ _ c.both.shares.items c.both.i c.both.j c.index-first-i.result c.index-second-j.result c.joined.result c.both-test.true c.if-j-second.true c.index-first-i.is c.index-second-j.is same c.joined.ensures.word c.joined.ensures.sum c.both.invariant)
+    let raw : c.index-first-i.result.word ≡ c.index-second-j.result.word = search rules in
+    let first = same_read c.args.first.now c.both.i c.index-first-i.result c.index-first-i-in-Equal.result c.both-test.true c.index-first-i.is c.index-first-i-in-Equal.is in
+    let second = same_read c.args.second.now c.both.j c.index-second-j.result c.index-second-j-in-Equal.result c.if-j-second.true c.index-second-j.is c.index-second-j-in-Equal.is in
+    let equal : c.index-first-i-in-Equal.result.word ≡ c.index-second-j-in-Equal.result.word = ap (λ (s : PackedShare). s.word) (sym first) ∙ raw ∙ ap (λ (s : PackedShare). s.word) second in
+    rw c.in_ok-push-in-Equal.ensures.items (PackedMerging-both _ _ c.both.shares.items c.both.i c.both.j c.index-first-i-in-Equal.result c.index-second-j-in-Equal.result c.joined.result c.both-test.true c.if-j-second.true c.index-first-i-in-Equal.is c.index-second-j-in-Equal.is equal c.joined.ensures.word c.joined.ensures.sum c.both.invariant)
 
 pub both-preserved : goal.both-preserved
 both-preserved c =
-    let more : c.index-second-j.result.word < c.index-first-i.result.word = search rules in
-    rw c.in_ok-push-in-Greater.ensures.items (PackedMerging-first _ _ c.both.shares.items c.both.i c.both.j c.index-first-i.result c.index-second-j.result c.both-test.true c.if-j-second.true c.index-first-i.is c.index-second-j.is more c.both.invariant)
+    let raw : c.index-second-j.result.word < c.index-first-i.result.word = search rules in
+    let same = same_read c.args.first.now c.both.i c.index-first-i.result c.index-first-i-in-Greater.result c.both-test.true c.index-first-i.is c.index-first-i-in-Greater.is in
+    let more = subst (λ (s : PackedShare). c.index-second-j.result.word < s.word) same raw in
+    rw c.in_ok-push-in-Greater.ensures.items (PackedMerging-first _ _ c.both.shares.items c.both.i c.both.j c.index-first-i-in-Greater.result c.index-second-j.result c.both-test.true c.if-j-second.true c.index-first-i-in-Greater.is c.index-second-j.is more c.both.invariant)
 
 pub returns : goal.returns
 returns c =
