@@ -1,13 +1,12 @@
 -- Terms that are a polynomial's already add up to themselves.
-use Rattle.std.specs.Prelude.{◌≡◌, ◌≢◌, ◌≤◌, ◌<◌, ℕ, ◌+◌, if◌then◌else◌, true, false, ℤ, pos, unsigned_abs, List, [], ◌∷◌, length, slice_index_or, Bool, IsTrue, refl}
+use Rattle.std.specs.Prelude.{◌≡◌, ◌≢◌, ◌≤◌, ℕ, ◌+◌, if◌then◌else◌, true, false, pos, unsigned_abs, List, [], ◌∷◌, length, slice_index_or, Bool, IsTrue, refl}
 use Rattle.std.proofs.Common.{arith, sym, ◌∙◌, ap, subst}
 use Rattle.std.specs.List.{AllByRecursion}
 use Rattle.std.specs.Ordering.{is_eq, is_lt, ordering_reverse}
 use Rattle.std.specs.declared.cmp.Ordering.{Ordering}
 use Rattle.std.specs.declared.cmp.Ordering.TheVariants.{Less, Equal, Greater}
-use Rattle.std.specs.declared.option.Option.{Option}
-use Rattle.std.specs.declared.option.Option.TheVariants.{None, Some}
-use Rattle.monomial.specs.Monomials.{monomial_cmp, too_high, IsMonomial}
+use Rattle.std.specs.declared.option.Option.TheVariants.{None}
+use Rattle.monomial.specs.Monomials.{monomial_cmp, IsMonomial}
 use Rattle.monomial.proofs.Exponents.{too_high-IsMonomial}
 use Rattle.monomial.proofs.Total.{monomial_cmp-IsTotalOrder}
 use Rattle.sparse_poly.specs.declared.Term.{Term}
@@ -58,13 +57,13 @@ weight_light m [] p = omega arith
 weight_light m (t ∷ ts) p =
     elim (is_of m t) as (λ b. is_of m t ≡ b → (if b then unsigned_abs t.coeff else 0) + weight ts m ≤ max_coeff) [
       | true ↦ λ e.
-        let same : m ≡ t.monomial = is_of-same m t e in
-        let none : weight ts m ≡ 0 = weight_above m ts (subst (λ n. AllByRecursion (λ (u : Term). monomial_cmp u.monomial n ≡ Less) ts) (sym same) p.falling.0) in
-        let small : unsigned_abs t.coeff ≤ max_coeff = p.in_range.0 in
-        omega arith
+          let same : m ≡ t.monomial = is_of-same m t e in
+          let none : weight ts m ≡ 0 = weight_above m ts (subst (λ n. AllByRecursion (λ (u : Term). monomial_cmp u.monomial n ≡ Less) ts) (sym same) p.falling.0) in
+          let small : unsigned_abs t.coeff ≤ max_coeff = p.in_range.0 in
+          omega arith
       | false ↦ λ e.
-        let rest : weight ts m ≤ max_coeff = weight_light m ts (record { falling = p.falling.1; monomials = p.monomials.1; apart = p.apart.1; in_range = p.in_range.1 }) in
-        omega arith
+          let rest : weight ts m ≤ max_coeff = weight_light m ts (record { falling = p.falling.1; monomials = p.monomials.1; apart = p.apart.1; in_range = p.in_range.1 }) in
+          omega arith
     ] refl
 
 degree_none : (ts : List Term) → AllByRecursion (λ (t : Term). IsMonomial t.monomial) ts → degree_of ts ≡ None

@@ -1,14 +1,12 @@
 -- Steps of the comparison of two polynomials, and what their order says of their greatest variables.
-use Rattle.std.specs.Prelude.{◌≡◌, ◌≢◌, ℕ, ◌+◌, ◌<◌, ◌≤◌, List, [], ◌∷◌, drop, length, slice_get, ℤ, pos, negsuc, zero, suc, if◌then◌else◌, nat_lt, refl}
+use Rattle.std.specs.Prelude.{◌≡◌, ◌≢◌, ℕ, ◌<◌, ◌≤◌, List, [], ◌∷◌, slice_get, ℤ, pos, negsuc, zero, suc, if◌then◌else◌, nat_lt, refl}
 use Rattle.std.proofs.Common.{arith, sym, ◌∙◌, ap, subst}
-use Rattle.std.proofs.lemmas.List.{length-drop}
 use Rattle.std.specs.List.{AllByRecursion}
 use Rattle.std.proofs.lemmas.Bool.Decides.{nat_tests}
 use Rattle.std.specs.declared.option.Option.{Option}
 use Rattle.std.specs.declared.option.Option.TheVariants.{None, Some}
 use Rattle.std.specs.declared.cmp.Ordering.{Ordering}
 use Rattle.std.specs.declared.cmp.Ordering.TheVariants.{Less, Equal, Greater}
-use Rattle.std.specs.Cmp.{nat_cmp_is}
 use Rattle.std.specs.Ordering.{nat_cmp, MatchOrdering, ordering_then}
 use Rattle.std.proofs.lemmas.Cmp.{ranked}
 use Rattle.monomial.specs.Monomials.{monomial_cmp, top}
@@ -16,7 +14,6 @@ use Rattle.sparse_poly.specs.declared.Term.{Term}
 use Rattle.sparse_poly.specs.Polynomials.{constant}
 use Rattle.sparse_poly.specs.Contributions.{higher, IsFalling, IsPoly}
 use Rattle.sparse_poly.specs.Reads.{main_variable}
-use Rattle.sparse_poly.specs.Order.{poly_cmp}
 
 -- a lower monomial has no greater variable
 no_higher : (m n : List (ℕ × ℕ)) → monomial_cmp n m ≡ Less → higher (top m) (top n) ≡ top m

@@ -22,10 +22,10 @@ mod packing;
 mod squeezing;
 mod stripping;
 
+use falling::is_polynomial;
 pub use laws::{
     combined_law, primitive_law, product_law, strip_law, subtraction_law, sum_law, unit_law,
 };
-use falling::is_polynomial;
 use monomial::Monomial;
 use multiplying::{added, combined, multiplied, summed};
 use std::alloc::{AllocError, AllocFailed, Global};

@@ -1,4 +1,4 @@
-use Rattle.std.proofs.Common.{rules, subst}
+use Rattle.std.proofs.Common.{rules}
 use Rattle.sparse_poly.specs.Contributions.{IsPoly}
 use Rattle.sparse_poly.proofs.InOrder.{IsResult-own}
 use Rattle.sparse_poly.proofs.Poly.from_terms.Goals as goal

@@ -1,5 +1,5 @@
 use Rattle.std.proofs.Common.{◌∙◌, sym, subst}
-use Rattle.sparse_poly.specs.Factors.{unit_powers, IsUnitMonomial}
+use Rattle.sparse_poly.specs.Factors.{IsUnitMonomial}
 use Rattle.monomial.specs.Monomials.{IsMonomial}
 use Rattle.sparse_poly.proofs.UnitMonomials.{IsMonomial-leading, IsMonomial-unit_powers, IsUnitMonomial-from}
 use Rattle.sparse_poly.proofs.stripping.unit_monomial.Goals as goal
