@@ -9,6 +9,7 @@ ghost use Rattle.sparse_poly.specs.Packed.{terms_read, shares_read, share_words,
 use crate::layout::Layout;
 use crate::multiplying::kept_product;
 use crate::packed_entry::{PackedShare, PackedTerm};
+use crate::squeezing::trimmed;
 use crate::{PolyFault, Term};
 use std::alloc::{AllocError, Global};
 use std::cmp::Ordering;
@@ -221,5 +222,5 @@ fn squeeze(alloc: Global, layout: &Layout, shares: &[PackedShare]) -> Result<Vec
             coeff: share.sum,
         })?;
     }
-    Ok(terms)
+    Ok(trimmed(terms))
 }

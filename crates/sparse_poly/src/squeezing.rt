@@ -33,5 +33,16 @@ pub fn squeeze(first: Vec<Share>, second: Vec<Share>) -> Result<Vec<Term>, PolyF
             });
         }
     }
-    Ok(terms)
+    Ok(trimmed(terms))
+}
+
+/// The same terms, which keep room for at most twice their number.
+pub fn trimmed(terms: Vec<Term>) -> Vec<Term>
+    ensures { result.items ≡ terms.items }
+{
+    let mut terms = terms;
+    if terms.len() < terms.capacity() / 2 {
+        terms.shrink_to_fit();
+    }
+    terms
 }

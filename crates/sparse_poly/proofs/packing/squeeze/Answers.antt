@@ -25,4 +25,4 @@ loop-share-preserved c =
 
 pub returns : goal.returns
 returns c =
-    Squeezing-end (monomial_of c.args.layout.now.variables.items) c.args.shares.now c.loop-share.share-index c.loop-share.terms.items (omega (arith, c.loop-share-test.false)) c.loop-share.invariant
+    rw c.trimmed.ensures (Squeezing-end (monomial_of c.args.layout.now.variables.items) c.args.shares.now c.loop-share.share-index c.loop-share.terms.items (omega (arith, c.loop-share-test.false)) c.loop-share.invariant)

@@ -45,4 +45,4 @@ shares-preserved c =
     }
 
 pub returns : goal.returns
-returns c = Squeezed-end _ _ c.shares.first.items c.shares.second.items c.shares.terms.items c.shares.invariant.squeezed (no_next _ _ _ _ c.next_share.result c.in_default.not-Some c.next_share.ensures)
+returns c = rw c.trimmed.ensures (Squeezed-end _ _ c.shares.first.items c.shares.second.items c.shares.terms.items c.shares.invariant.squeezed (no_next _ _ _ _ c.next_share.result c.in_default.not-Some c.next_share.ensures))
