@@ -171,6 +171,9 @@ impl Monomial {
         requires { Divides divisor.now self.now }
         ensures { IfOk result (λ m. monomial_times divisor.now m ≡ self.now) }
     {
+        if divisor.len() == 0 {
+            return self.copy();
+        }
         let powers = quotient(&self.powers, &divisor.powers)?;
         Ok(Monomial { powers })
     }

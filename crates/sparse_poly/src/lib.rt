@@ -21,6 +21,7 @@ mod packed_entry;
 mod packing;
 mod squeezing;
 mod stripping;
+mod weighing;
 
 use falling::is_polynomial;
 pub use laws::{

@@ -3,6 +3,7 @@ ghost use Rattle.std.specs.Prelude.{◌≡◌, ◌+◌, ◌+ℤ◌, List, [], �
 ghost use Rattle.sparse_poly.specs.Standing.{Agree, IsNext, IsFront, IsMerged, IsSorted};
 
 use crate::entry::Share;
+use crate::weighing::joined_sum;
 use std::alloc::AllocError;
 use std::cmp::Ordering;
 use std::collections::VecDeque;
@@ -12,18 +13,11 @@ fn joined(x: Share, y: Share) -> Share
     ensures monomial { result.monomial ≡ x.monomial }
     ensures sum { Agree result.weight result.sum (x.weight + y.weight) (x.sum +ℤ y.sum) }
 {
-    let weight = x.weight.saturating_add(y.weight);
-    if weight > i128::MAX as u128 {
-        return Share {
-            monomial: x.monomial,
-            sum: 0,
-            weight: u128::MAX,
-        };
-    }
+    let total = joined_sum(x.total(), y.total());
     Share {
         monomial: x.monomial,
-        sum: x.sum + y.sum,
-        weight,
+        sum: total.value,
+        weight: total.weight,
     }
 }
 

@@ -1,5 +1,7 @@
 //! Terms and sums of contributions whose monomials are words.
-ghost use Rattle.std.specs.Prelude.{◌<◌, ◌≤◌, ◌^◌, unsigned_abs};
+ghost use Rattle.std.specs.Prelude.{◌≡◌, ◌<◌, ◌≤◌, ◌^◌, unsigned_abs};
+
+use crate::weighing::Sum;
 
 /// A term whose monomial is a word.
 #[derive(Clone, Copy)]
@@ -16,4 +18,17 @@ pub struct PackedShare {
     pub sum: i128,
     pub weight: u128,
     ghost within: { unsigned_abs sum ≤ weight },
+}
+
+impl PackedShare {
+    /// The sum without its monomial.
+    pub fn total(&self) -> Sum
+        ensures value { result.value ≡ self.now.sum }
+        ensures weight { result.weight ≡ self.now.weight }
+    {
+        Sum {
+            value: self.sum,
+            weight: self.weight,
+        }
+    }
 }

@@ -10,6 +10,7 @@ use crate::layout::Layout;
 use crate::multiplying::kept_product;
 use crate::packed_entry::{PackedShare, PackedTerm};
 use crate::squeezing::trimmed;
+use crate::weighing::joined_sum;
 use crate::{PolyFault, Term};
 use std::alloc::{AllocError, Global};
 use std::cmp::Ordering;
@@ -186,18 +187,11 @@ fn joined(x: PackedShare, y: PackedShare) -> PackedShare
     ensures word { result.word ≡ x.word }
     ensures sum { Agree result.weight result.sum (x.weight + y.weight) (x.sum +ℤ y.sum) }
 {
-    let weight = x.weight.saturating_add(y.weight);
-    if weight > i128::MAX as u128 {
-        return PackedShare {
-            word: x.word,
-            sum: 0,
-            weight: u128::MAX,
-        };
-    }
+    let total = joined_sum(x.total(), y.total());
     PackedShare {
         word: x.word,
-        sum: x.sum + y.sum,
-        weight,
+        sum: total.value,
+        weight: total.weight,
     }
 }
 
