@@ -5,8 +5,8 @@
 use crate::monomial::{Keyed, Monomial};
 use crate::poly::{self, Fault, Term};
 
-/// From so many contributions on, words are worth while.
-const MANY: usize = 16;
+/// From so many contributions for each term of the factors on, words are worth while.
+const MANY: usize = 3;
 
 const VARIABLES: usize = 8;
 const HIGHEST: u16 = 32_767;
@@ -165,7 +165,7 @@ fn share(t: &WordTerm, u: &WordTerm, minus: bool) -> Share {
 
 /// The combination `l*q - a*p`.
 pub fn combine(l: &[Term<Keyed>], q: &[Term<Keyed>], a: &[Term<Keyed>], p: &[Term<Keyed>]) -> Result<Vec<Term<Keyed>>, Fault> {
-    if l.len() * q.len() + a.len() * p.len() < MANY {
+    if l.len() * q.len() + a.len() * p.len() < MANY * (l.len() + q.len() + a.len() + p.len()) {
         return poly::combine(l, q, a, p);
     }
     let Some(layout) = Layout::of(&[l, a, q, p]) else {
@@ -178,7 +178,7 @@ pub fn combine(l: &[Term<Keyed>], q: &[Term<Keyed>], a: &[Term<Keyed>], p: &[Ter
 
 /// The product `l*q`.
 pub fn times(l: &[Term<Keyed>], q: &[Term<Keyed>]) -> Result<Vec<Term<Keyed>>, Fault> {
-    if l.len() * q.len() < MANY {
+    if l.len() * q.len() < MANY * (l.len() + q.len()) {
         return poly::times(l, q);
     }
     let Some(layout) = Layout::of(&[l, q]) else {

@@ -15,8 +15,8 @@ use crate::{PolyFault, Term};
 use std::alloc::{AllocError, Global};
 use std::cmp::Ordering;
 
-/// The layout for `l*q - a*p`, and `None` where words don't serve: where there are fewer than 16 contributions, more than eight variables, or
-/// an exponent above 32,767.
+/// The layout for `l*q - a*p`, and `None` where words don't serve: where there are less than three contributions for each term of the factors,
+/// more than eight variables, or an exponent above 32,767.
 pub fn layout_for(l: &[Term], q: &[Term], a: &[Term], p: &[Term]) -> Option<Layout>
     ensures layout { IfSome result (λ y. IsLayout y.variables.items) }
     ensures l { IfSome result (λ y. AllFit y.variables.items l.now) }
@@ -24,9 +24,11 @@ pub fn layout_for(l: &[Term], q: &[Term], a: &[Term], p: &[Term]) -> Option<Layo
     ensures a { IfSome result (λ y. AllFit y.variables.items a.now) }
     ensures p { IfSome result (λ y. AllFit y.variables.items p.now) }
 {
-    let first = l.len().saturating_mul(q.len());
-    let second = a.len().saturating_mul(p.len());
-    if first.saturating_add(second) < 16 {
+    let contributions = (l.len().saturating_mul(q.len())).saturating_add(
+        a.len().saturating_mul(p.len()),
+    );
+    let terms = (l.len().saturating_add(q.len())).saturating_add(a.len().saturating_add(p.len()));
+    if contributions / 3 < terms {
         return None;
     }
     Layout::of(l, q, a, p)
