@@ -242,11 +242,12 @@ fn quotient(powers: &Powers, divisor: &Powers) -> Result<Powers, AllocError>
     Ok(left)
 }
 
-// The product of two lists of powers.
+// The product of two lists of powers, made as a list: mostly it has more than eight powers, or great variables.
 fn product(first: &Powers, second: &Powers) -> Result<Powers, MonoFault>
     ensures { MatchResult result (IsProductOf first.now second.now) (IsFaultOf first.now second.now) }
 {
-    let mut powers = Powers::new(first.allocator());
+    let alloc = first.allocator();
+    let mut powers = Vec::with_capacity(alloc, first.len().saturating_add(second.len()))?;
     let mut i = 0;
     let mut j = 0;
     'both: while i < first.len() && j < second.len() {
@@ -280,7 +281,7 @@ fn product(first: &Powers, second: &Powers) -> Result<Powers, MonoFault>
         powers.push(second.power_at(j))?;
         j += 1;
     }
-    Ok(powers)
+    Ok(Powers::of_list(alloc, powers))
 }
 
 // The sum of two exponents.

@@ -47,6 +47,16 @@ impl Powers {
         }
     }
 
+    /// The powers of a list.
+    pub fn of_list(alloc: Global, powers: Vec<(u32, u16)>) -> Powers
+        ensures { result ≡ powers.items }
+    {
+        Powers {
+            stored: Stored::Many(powers),
+            alloc,
+        }
+    }
+
     /// The allocator.
     pub fn allocator(&self) -> Global {
         self.alloc
