@@ -4,3 +4,7 @@ pub mod Exponents
 pub mod Lower
 pub mod Ended
 pub mod KeyOrder
+pub mod Words
+pub mod Lanes
+pub mod Masks
+pub mod Placings

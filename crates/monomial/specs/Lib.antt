@@ -2,3 +2,6 @@ pub mod Monomials
 pub mod Keys
 pub mod KeyProducts
 pub mod Stored
+pub mod Layouts
+pub mod Lefts
+pub mod Readings

@@ -1,14 +1,23 @@
 //! Products of powers of variables, in the order of the greatest variable.
 #![tactic(auto)]
 
-ghost use Rattle.std.specs.Prelude.{◌≡◌, ◌<◌, ◌≤◌, ℕ, ◌+◌, List, [], ◌∷◌, ◌++◌, IfOk, MatchResult, IsTrue, ◌↔◌, length, slice_index_or};
+ghost use Rattle.std.specs.Prelude.{◌≡◌, ◌<◌, ◌≤◌, ℕ, ◌+◌, List, [], ◌∷◌, ◌++◌, IfOk, MatchOption, MatchResult, IsTrue, ◌↔◌, length, slice_index_or};
 ghost use Rattle.std.specs.declared.option.Option.TheVariants.{None, Some};
 ghost use Rattle.monomial.specs.Monomials.{monomial_cmp, monomial_times, exponent, top, too_high, Divides, IsMonomial, IsProductOf, IsFaultOf, each_divides, lowered, without};
+ghost use Rattle.monomial.specs.Layouts.{monomial_of, FitsLayout, IsWordIn};
+ghost use Rattle.monomial.specs.Readings.{left_powers};
 
 mod keys;
+mod laid;
+mod layout;
 mod powers;
+mod reading;
 
+use laid::Laid;
+pub use layout::Layout;
+use layout::lane;
 use powers::Powers;
+pub use reading::PowersLeft;
 use std::alloc::{AllocError, AllocFailed, Global};
 use std::cmp::Ordering;
 use std::marker::Model;
@@ -102,6 +111,40 @@ impl Monomial {
         })
     }
 
+    /// The monomial whose exponents stand in a word in the places of a layout's variables.
+    #[inline(always)]
+    pub fn of_word(alloc: Global, layout: &Layout, word: u128) -> Monomial
+        ensures { result ≡ monomial_of layout.now word }
+    {
+        Monomial {
+            powers: Powers::of_word(alloc, Laid::new(layout.copy(), word)),
+        }
+    }
+
+    /// A layout that has the variables of this monomial, if it is stored as a word.
+    pub fn layout(&self) -> Option<Layout> {
+        self.powers.layout()
+    }
+
+    /// The word of this monomial in a layout, and `None` exactly where it has a variable that the layout has not or an exponent above 32,767.
+    #[inline(always)]
+    pub fn word_in(&self, layout: &Layout) -> Option<u128>
+        ensures { MatchOption result (FitsLayout layout.now self.now → ⊥) (IsWordIn layout.now self.now) }
+    {
+        match self.powers.word_in(layout) {
+            Some(word) => Some(word),
+            None => placed_word(self, layout),
+        }
+    }
+
+    /// The powers `(variable, exponent)`, to be read from the greatest variable down.
+    #[inline(always)]
+    pub fn powers(&self) -> PowersLeft<'_>
+        ensures { left_powers result ≡ self.now }
+    {
+        self.powers.powers()
+    }
+
     /// The number of powers.
     pub fn len(&self) -> usize
         ensures value { result ≡ length self.now }
@@ -133,7 +176,7 @@ impl Monomial {
     pub fn exponent(&self, var: u32) -> u32
         ensures { result ≡ exponent self.now var }
     {
-        exponent_in(&self.powers, var)
+        self.powers.exponent(var)
     }
 
     /// The order of monomials: a is below b where, at the greatest variable in which their exponents differ, a has the smaller exponent.
@@ -179,8 +222,40 @@ impl Monomial {
     }
 }
 
-// The exponent of a variable in a list of powers.
-fn exponent_in(powers: &Powers, var: u32) -> u32
+// The word of a monomial in a layout, power by power.
+fn placed_word(monomial: &Monomial, layout: &Layout) -> Option<u128>
+    ensures { MatchOption result (FitsLayout layout.now monomial.now → ⊥) (IsWordIn layout.now monomial.now) }
+{
+    let _powers = monomial.len();
+    let variables = layout.word();
+    let mut left = monomial.powers();
+    let mut power = left.next();
+    let mut word = 0u128;
+    let mut place = 8;
+    'lanes: while place > 0 {
+        place -= 1;
+        word *= 65536;
+        let Some((var, exp)) = power else {
+            continue;
+        };
+        let variable = u32::from(lane(variables, place));
+        if var < variable {
+            continue;
+        }
+        if var > variable || exp > 32767 {
+            return None;
+        }
+        word += u128::from(exp);
+        power = left.next();
+    }
+    match power {
+        Some(_) => None,
+        None => Some(word),
+    }
+}
+
+/// The exponent of a variable in a list of powers.
+pub(crate) fn exponent_in(powers: &Powers, var: u32) -> u32
     ensures { result ≡ exponent powers.now var }
 {
     let mut i = 0;

@@ -1,11 +1,16 @@
 //! Lists of powers, which take little room where the powers are few.
-ghost use Rattle.std.specs.Prelude.{◌≡◌, ◌≢◌, ◌<◌, ◌≤◌, ◌/◌, ◌%◌, ℕ, ◌+◌, List, [], ◌∷◌, ◌++◌, IfOk, OnOk, MatchOption, MatchResult, map, length, slice_index_or};
+ghost use Rattle.std.specs.Prelude.{◌≡◌, ◌≢◌, ◌<◌, ◌≤◌, ◌/◌, ◌%◌, ℕ, ◌+◌, List, [], ◌∷◌, ◌++◌, IfOk, OnOk, IfSome, MatchOption, MatchResult, map, length, slice_index_or};
 ghost use Rattle.std.specs.declared.option.Option.TheVariants.{None, Some};
-ghost use Rattle.monomial.specs.Monomials.{power_cmp, monomial_cmp, IsProductOf, IsFaultOf};
+ghost use Rattle.monomial.specs.Monomials.{power_cmp, monomial_cmp, exponent, IsProductOf, IsFaultOf};
+ghost use Rattle.monomial.specs.Layouts.{IsWordIn};
+ghost use Rattle.monomial.specs.Readings.{left_powers};
 ghost use Rattle.monomial.specs.Keys.{power_of};
 
 use crate::keys::{Key, KeyProduct, listed, product_of_keys, same_keys};
-use crate::{MonoFault, product};
+use crate::laid::Laid;
+use crate::layout::Layout;
+use crate::reading::PowersLeft;
+use crate::{MonoFault, exponent_in, product};
 use arrayvec::ArrayVec;
 use std::alloc::{AllocError, Global};
 use std::cmp::Ordering;
@@ -14,6 +19,8 @@ use std::marker::Model;
 // How powers are stored.
 #[derive(Drop)]
 enum Stored {
+    // Powers of a layout's variables, with all exponents in one word.
+    Word(Laid),
     // At most eight powers of variables below 65,536.
     Few(ArrayVec<Key, 8>),
     // Any powers.
@@ -57,6 +64,57 @@ impl Powers {
         }
     }
 
+    /// The powers of a word.
+    pub fn of_word(alloc: Global, laid: Laid) -> Powers
+        ensures { result ≡ laid }
+    {
+        Powers {
+            stored: Stored::Word(laid),
+            alloc,
+        }
+    }
+
+    /// The layout of the word that is stored, if one is.
+    pub fn layout(&self) -> Option<Layout> {
+        match &self.stored {
+            Stored::Word(laid) => Some(laid.layout()),
+            _ => None,
+        }
+    }
+
+    /// The word in a layout, where that is stored and no exponent is above 32,767.
+    #[inline(always)]
+    pub fn word_in(&self, layout: &Layout) -> Option<u128>
+        ensures { IfSome result (IsWordIn layout.now self.now) }
+    {
+        match &self.stored {
+            Stored::Word(laid) => laid.word_in(layout),
+            _ => None,
+        }
+    }
+
+    /// The powers that are left to read, which are all.
+    #[inline(always)]
+    pub fn powers(&self) -> PowersLeft<'_>
+        ensures { left_powers result ≡ self.now }
+    {
+        match &self.stored {
+            Stored::Word(laid) => PowersLeft::of_word(laid.powers()),
+            Stored::Few(keys) => PowersLeft::of_keys(keys.as_slice()),
+            Stored::Many(powers) => PowersLeft::of_list(powers),
+        }
+    }
+
+    /// The exponent of a variable.
+    pub fn exponent(&self, var: u32) -> u32
+        ensures { result ≡ exponent self.now var }
+    {
+        match &self.stored {
+            Stored::Word(laid) => laid.exponent(var),
+            _ => exponent_in(self, var),
+        }
+    }
+
     /// The allocator.
     pub fn allocator(&self) -> Global {
         self.alloc
@@ -67,6 +125,7 @@ impl Powers {
         ensures { result ≡ length self.now }
     {
         match &self.stored {
+            Stored::Word(laid) => laid.len(),
             Stored::Few(keys) => keys.len(),
             Stored::Many(powers) => powers.len(),
         }
@@ -79,6 +138,7 @@ impl Powers {
         ensures bound { result.1 ≤ 65535 }
     {
         match &self.stored {
+            Stored::Word(laid) => small(laid.power_at(place)),
             Stored::Few(keys) => keys.as_slice()[place].power(),
             Stored::Many(powers) => small(powers[place]),
         }
@@ -89,6 +149,12 @@ impl Powers {
         ensures { OnOk result (self.new ≡ self.old ++ power ∷ []) }
     {
         match &mut self.stored {
+            Stored::Word(laid) => {
+                let keys = laid.keys();
+                let mut powers = listed(self.alloc, keys.as_slice())?;
+                powers.push(power)?;
+                self.stored = Stored::Many(powers);
+            }
             Stored::Few(keys) => match Key::of(power) {
                 Some(key) if !keys.is_full() => keys.push(key),
                 _ => {
@@ -107,6 +173,7 @@ impl Powers {
         ensures { IfOk result (λ p. p ≡ self.now) }
     {
         let stored = match &self.stored {
+            Stored::Word(laid) => Stored::Word(laid.copy()),
             Stored::Few(keys) => Stored::Few(same_keys(keys.as_slice())),
             Stored::Many(powers) => Stored::Many(Vec::from_slice(self.alloc, powers)?),
         };
@@ -120,19 +187,47 @@ impl Powers {
     pub fn times(&self, other: &Powers) -> Result<Powers, MonoFault>
         ensures { MatchResult result (IsProductOf self.now other.now) (IsFaultOf self.now other.now) }
     {
-        if let (Stored::Few(first), Stored::Few(second)) = (&self.stored, &other.stored) {
-            match product_of_keys(first.as_slice(), second.as_slice()) {
-                KeyProduct::Made(keys) => {
-                    return Ok(Powers {
-                        stored: Stored::Few(keys),
-                        alloc: self.alloc,
-                    });
-                }
-                KeyProduct::TooHigh(var) => return Err(MonoFault::Degree { var }),
-                KeyProduct::TooMany => {}
+        match (&self.stored, &other.stored) {
+            (Stored::Few(first), Stored::Few(second)) => {
+                self.times_by_keys(other, first.as_slice(), second.as_slice())
             }
+            (Stored::Word(first), Stored::Few(second)) => {
+                let first = first.keys();
+                self.times_by_keys(other, first.as_slice(), second.as_slice())
+            }
+            (Stored::Few(first), Stored::Word(second)) => {
+                let second = second.keys();
+                self.times_by_keys(other, first.as_slice(), second.as_slice())
+            }
+            (Stored::Word(first), Stored::Word(second)) => {
+                let first = first.keys();
+                let second = second.keys();
+                self.times_by_keys(other, first.as_slice(), second.as_slice())
+            }
+            _ => product(self, other),
         }
-        product(self, other)
+    }
+
+    // The product of two lists of powers, whose keys these are.
+    #[inline(always)]
+    fn times_by_keys(
+        &self,
+        other: &Powers,
+        first: &[Key],
+        second: &[Key],
+    ) -> Result<Powers, MonoFault>
+        requires first { map power_of first.now ≡ self.now }
+        requires second { map power_of second.now ≡ other.now }
+        ensures { MatchResult result (IsProductOf self.now other.now) (IsFaultOf self.now other.now) }
+    {
+        match product_of_keys(first, second) {
+            KeyProduct::Made(keys) => Ok(Powers {
+                stored: Stored::Few(keys),
+                alloc: self.alloc,
+            }),
+            KeyProduct::TooHigh(var) => Err(MonoFault::Degree { var }),
+            KeyProduct::TooMany => product(self, other),
+        }
     }
 
     /// The lexicographic order, in which powers are ordered by their variables, then by their exponents.
@@ -141,6 +236,10 @@ impl Powers {
     {
         match (&self.stored, &other.stored) {
             (Stored::Few(first), Stored::Few(second)) => first.as_slice().cmp(second.as_slice()),
+            (Stored::Word(first), Stored::Word(second)) => match first.order(second) {
+                Some(order) => order,
+                None => self.order_by_power(other),
+            },
             _ => self.order_by_power(other),
         }
     }

@@ -1,0 +1,14 @@
+-- The powers that are left to read.
+use Rattle.std.specs.Prelude.{ℕ, List, map}
+use Rattle.monomial.specs.declared.reading.PowersLeft.{PowersLeft}
+use Rattle.monomial.specs.declared.reading.Left.{Left}
+use Rattle.monomial.specs.declared.reading.Left.TheVariants.{Word, Few, Many}
+use Rattle.monomial.specs.Keys.{power_of}
+
+abbrev pub left_of : Left → List (ℕ × ℕ)
+left_of (Word lanes) = lanes
+left_of (Few keys) = map power_of keys.now
+left_of (Many powers) = powers.now
+
+abbrev pub left_powers : PowersLeft → List (ℕ × ℕ)
+left_powers p = left_of p.left

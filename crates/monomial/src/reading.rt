@@ -1,0 +1,79 @@
+//! Reading the powers of a monomial one after the other.
+ghost use Rattle.std.specs.Prelude.{◌≡◌, ℕ, List, map};
+ghost use Rattle.std.specs.Iterator.{YieldsFirst, item_count};
+ghost use Rattle.monomial.specs.Keys.{power_of};
+ghost use Rattle.monomial.specs.Readings.{left_powers};
+
+use crate::keys::Key;
+use crate::laid::LanesLeft;
+
+// The powers that are left, by how they are stored.
+#[derive(Drop)]
+enum Left<'a> {
+    Word(LanesLeft),
+    Few(&'a [Key]),
+    Many(&'a [(u32, u16)]),
+}
+
+/// The powers `(variable, exponent)` of a monomial that are left to read, from the greatest variable down.
+#[derive(Drop)]
+pub struct PowersLeft<'a> {
+    left: Left<'a>,
+}
+
+impl<'a> PowersLeft<'a> {
+    /// The powers of a word.
+    #[inline(always)]
+    pub fn of_word(lanes: LanesLeft) -> PowersLeft<'a>
+        ensures { left_powers result ≡ lanes }
+    {
+        PowersLeft {
+            left: Left::Word(lanes),
+        }
+    }
+
+    /// The powers of keys.
+    #[inline(always)]
+    pub fn of_keys(keys: &'a [Key]) -> PowersLeft<'a>
+        ensures { left_powers result ≡ map power_of keys.now }
+    {
+        PowersLeft {
+            left: Left::Few(keys),
+        }
+    }
+
+    /// The powers of a list.
+    #[inline(always)]
+    pub fn of_list(powers: &'a [(u32, u16)]) -> PowersLeft<'a>
+        ensures { left_powers result ≡ powers.now }
+    {
+        PowersLeft {
+            left: Left::Many(powers),
+        }
+    }
+}
+
+impl<'a> Iterator for PowersLeft<'a> {
+    type Item = (u32, u16);
+
+    ghost next_gives = { YieldsFirst left_powers };
+
+    ghost remaining = { item_count left_powers };
+
+    #[inline(always)]
+    fn next(&mut self) -> Option<(u32, u16)> {
+        match &mut self.left {
+            Left::Word(lanes) => lanes.next(),
+            Left::Few(keys) => {
+                let (first, others) = keys.split_first()?;
+                *keys = others;
+                Some(first.power())
+            }
+            Left::Many(powers) => {
+                let (first, others) = powers.split_first()?;
+                *powers = others;
+                Some(*first)
+            }
+        }
+    }
+}
