@@ -1,8 +1,10 @@
 -- Packed shares: their merges, and what the contributions to a product stand for.
-use Rattle.std.specs.Prelude.{zero, suc, ◌≡◌, ◌<◌, ◌≤◌, ℕ, ◌+◌, ◌-◌, Bool, true, false, if◌then◌else◌, ℤ, pos, unsigned_abs, ◌+ℤ◌, ◌*ℤ◌, List, [], ◌∷◌, ◌++◌, length, drop, slice_index_or, refl}
+use Rattle.std.specs.Prelude.{zero, suc, ◌≡◌, ◌<◌, ◌≤◌, ℕ, ◌+◌, ◌-◌, Bool, true, false, if◌then◌else◌, ℤ, pos, unsigned_abs, ◌+ℤ◌, ◌*ℤ◌, List, [], ◌∷◌, ◌++◌, length, take, drop, slice_index_or, refl}
 use mathlib.Core.Logic.{◌⊎◌, inl, inr}
 use Rattle.std.proofs.Common.{arith, sym, ◌∙◌, ap, subst, append_assoc}
 use Rattle.std.proofs.lemmas.Int.{ints}
+use Rattle.std.proofs.lemmas.List.{take-append-drop}
+use Rattle.std.proofs.lemmas.Slice.{between_to_end}
 use Rattle.std.specs.Ordering.{is_eq}
 use Rattle.monomial.specs.Monomials.{monomial_cmp, monomial_times}
 use Rattle.sparse_poly.specs.declared.Term.{Term}
@@ -11,10 +13,10 @@ use Rattle.sparse_poly.specs.declared.packed_entry.PackedTerm.{PackedTerm}
 use Rattle.sparse_poly.specs.declared.packed_entry.PackedShare.{PackedShare}
 use Rattle.sparse_poly.specs.Contributions.{signed, signed_row, signed_products}
 use Rattle.sparse_poly.specs.Standing.{ssum, sweight, Agree, Stands}
-use Rattle.sparse_poly.specs.Packed.{Reading, term_read, terms_read, share_read, shares_read, term_words, share_words, AllUnder, AllHalves, IsPackedRow, IsPackedProduct, IsPackedMerge}
+use Rattle.sparse_poly.specs.Packed.{Reading, term_read, terms_read, share_read, shares_read, term_words, share_words, AreProducts, AllUnder, AllHalves, IsPackedRow, IsPackedProduct, IsPackedMerge}
 use Rattle.sparse_poly.proofs.Evaluation.{zero_plus}
 use Rattle.sparse_poly.proofs.Adding.{signed_products-append, signed_products-one}
-use Rattle.sparse_poly.proofs.Standings.{agree_plus, agree_through, same_agrees, Stands-both, no_products}
+use Rattle.sparse_poly.proofs.Standings.{agree_plus, agree_through, same_agrees, Stands-both, Stands-append, no_products}
 use Rattle.sparse_poly.proofs.Descending.{all_front, all_back, all_map}
 use Rattle.sparse_poly.proofs.Layouts.{drop_one, drop_end}
 
@@ -242,9 +244,21 @@ term_words-append : (xs ys : List PackedTerm) → term_words (xs ++ ys) ≡ term
 term_words-append [] ys = refl
 term_words-append (x ∷ xs) ys = ap (λ zs. x.word ∷ zs) (term_words-append xs ys)
 
+pub term_halves : (ts : List PackedTerm) (k : ℕ) → ts ≡ take k ts ++ take (length ts - k) (drop k ts)
+term_halves ts k = sym (ap (λ zs. take k ts ++ zs) (between_to_end ts k (length ts) (omega arith)) ∙ take-append-drop k ts)
+
+append_products : (minus : Bool) (r : Reading) (ts us xs ys : List PackedTerm) → ts ≡ xs ++ ys → signed_products minus (terms_read r ts) (terms_read r us) ≡ signed_products minus (terms_read r xs) (terms_read r us) ++ signed_products minus (terms_read r ys) (terms_read r us)
+append_products minus r ts us xs ys e = ap (λ ws. signed_products minus ws (terms_read r us)) (ap (terms_read r) e ∙ terms_read-append r xs ys) ∙ signed_products-append minus (terms_read r xs) (terms_read r ys) (terms_read r us)
+
+-- the contributions of both halves of a factor
+pub halves_sums : (minus : Bool) (ts us xs ys : List PackedTerm) (fs bs : List PackedShare) → ts ≡ xs ++ ys → IsPackedProduct minus xs us fs → IsPackedProduct minus ys us bs → (r : Reading) → AreProducts r ts us → Stands (shares_read r fs ++ shares_read r bs) (signed_products minus (terms_read r ts) (terms_read r us))
+halves_sums minus ts us xs ys fs bs e f b r p =
+    let both : AreProducts r (xs ++ ys) us = subst (λ ws. AreProducts r ws us) e p in
+    subst (Stands (shares_read r fs ++ shares_read r bs)) (sym (append_products minus r ts us xs ys e)) (Stands-append _ _ _ _ (f.sums r (all_front _ xs ys both)) (b.sums r (all_back _ xs ys both)))
+
 pub product_halves : (minus : Bool) (ts us xs ys : List PackedTerm) (fs bs zs : List PackedShare) → ts ≡ xs ++ ys → IsPackedProduct minus xs us fs → IsPackedProduct minus ys us bs → IsPackedMerge fs bs zs → IsPackedProduct minus ts us zs
 product_halves minus ts us xs ys fs bs zs e f b m = subst (λ ws. IsPackedProduct minus ws us zs) (sym e) (record {
-  sums = λ r p. subst (Stands (shares_read r zs)) (sym (ap (λ ws. signed_products minus ws (terms_read r us)) (terms_read-append r xs ys) ∙ signed_products-append minus (terms_read r xs) (terms_read r ys) (terms_read r us)))
+  sums = λ r p. subst (Stands (shares_read r zs)) (sym (append_products minus r (xs ++ ys) us xs ys refl))
       (Stands-both _ _ _ _ _ (m.both r) (f.sums r (all_front _ xs ys p)) (b.sums r (all_back _ xs ys p)));
   falling = λ h. m.falling (f.falling h) (b.falling h);
   under = λ n a h. let both : AllHalves n (term_words xs ++ term_words ys) = subst (AllHalves n) (term_words-append xs ys) a in
