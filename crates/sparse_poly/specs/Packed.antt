@@ -1,5 +1,5 @@
 -- Packed terms and shares, and what they stand for where each word is read as a monomial.
-use Rattle.std.specs.Prelude.{◌≡◌, ◌<◌, ◌≤◌, ℕ, ◌+◌, ◌-◌, ◌*◌, ◌^◌, Bool, List, [], ◌∷◌, length, drop}
+use Rattle.std.specs.Prelude.{◌≡◌, ◌<◌, ◌≤◌, ℕ, ◌+◌, ◌-◌, ◌*◌, ◌^◌, Bool, List, [], ◌∷◌, ◌++◌, length, drop}
 use Rattle.std.specs.declared.option.Option.{Option}
 use Rattle.std.specs.declared.option.Option.TheVariants.{None, Some}
 use Rattle.std.specs.List.{AllByRecursion}
@@ -58,11 +58,21 @@ AllUnder n ws = AllByRecursion (λ w. w < n) ws
 abbrev pub AllHalves : ℕ → List ℕ → Type 0
 AllHalves n ws = AllByRecursion (λ w. w + w < n) ws
 
--- the contributions of one term, falling
+-- words with one word added to each
+abbrev pub raised : ℕ → List ℕ → List ℕ
+raised w [] = []
+raised w (v ∷ vs) = (w + v) ∷ raised w vs
+
+-- the contributions of one term, in the order of the terms
 pub record IsPackedRow (minus : Bool) (t : PackedTerm) (us : List PackedTerm) (ss : List PackedShare) : Type 0 where
   pub sums : (r : Reading) → AreProducts r (t ∷ []) us → Stands (shares_read r ss) (signed_row minus (term_read r t) (terms_read r us))
-  pub falling : AreFalling (term_words us) → AreFalling (share_words ss)
-  pub under : (n : ℕ) → AllUnder n (term_words us) → AllUnder (t.word + n) (share_words ss)
+  pub words : share_words ss ≡ raised t.word (term_words us)
+
+-- the contributions of one term were added to shares
+pub record IsRowAdded (minus : Bool) (t : PackedTerm) (us : List PackedTerm) (old new : List PackedShare) : Type 0 where
+  pub row : List PackedShare
+  pub is_row : IsPackedRow minus t us row
+  pub items : new ≡ old ++ row
 
 -- the contributions to a product, falling
 pub record IsPackedProduct (minus : Bool) (ts us : List PackedTerm) (ss : List PackedShare) : Type 0 where

@@ -1,11 +1,12 @@
 //! Products of polynomials whose monomials are words.
-ghost use Rattle.std.specs.Prelude.{◌≡◌, ◌≤◌, ◌+◌, ◌+ℤ◌, ◌*ℤ◌, [], ◌∷◌, ◌++◌, unsigned_abs, IfOk, IfSome, MatchResult};
+ghost use Rattle.std.specs.Prelude.{◌≡◌, ◌≤◌, ◌+◌, ◌+ℤ◌, ◌*ℤ◌, [], ◌∷◌, ◌++◌, length, unsigned_abs, IfOk, IfSome, MatchResult};
+ghost use Rattle.std.specs.Vec.{vec_len, vec_capacity};
 ghost use Rattle.std.specs.declared.option.Option.TheVariants.{None};
 ghost use Rattle.sparse_poly.specs.Contributions.{signed, degree_of, signed_products, contributions, IsPoly, IsResult, IsFault};
 ghost use Rattle.sparse_poly.specs.Polynomials.{products};
 ghost use Rattle.sparse_poly.specs.Standing.{Agree, Stands, IsLightSum, IsHeavyFault};
 ghost use Rattle.sparse_poly.specs.Packing.{monomial_of, IsLayout, AllFit};
-ghost use Rattle.sparse_poly.specs.Packed.{terms_read, shares_read, AllPackedIn, AreOrdered, IsPackedNext, IsPackedProduct, IsPackedMerge};
+ghost use Rattle.sparse_poly.specs.Packed.{terms_read, shares_read, AllPackedIn, AreOrdered, IsPackedNext, IsRowAdded, IsPackedProduct, IsPackedMerge};
 
 use crate::layout::Layout;
 use crate::multiplying::kept_product;
@@ -138,6 +139,9 @@ fn part(
     if n == 1 {
         return row_of(alloc, ts[0], us, minus);
     }
+    if n == 2 {
+        return pair_of(alloc, ts[0], ts[1], us, minus);
+    }
     let first = part(alloc, &ts[..n / 2], us, minus)?;
     let second = part(alloc, &ts[n / 2..], us, minus)?;
     merge(alloc, &first, &second)
@@ -153,10 +157,60 @@ fn row_of(
     ensures { IfOk result (λ v. IsPackedProduct minus (t ∷ []) us.now v.items) }
 {
     let mut shares = Vec::with_capacity(alloc, us.len())?;
-    for u in us {
-        shares.push(share_of(t, *u, minus))?;
-    }
+    add_row(&mut shares, t, us, minus);
     Ok(shares)
+}
+
+// The contributions of two terms.
+fn pair_of(
+    alloc: Global,
+    t: PackedTerm,
+    s: PackedTerm,
+    us: &[PackedTerm],
+    minus: bool,
+) -> Result<Vec<PackedShare>, AllocError>
+    ensures { IfOk result (λ v. IsPackedProduct minus (t ∷ s ∷ []) us.now v.items) }
+{
+    let mut shares = Vec::with_capacity(alloc, us.len().saturating_add(us.len()))?;
+    let mut i = 0;
+    let mut j = 0;
+    'both: while i < us.len() && j < us.len() {
+        let x = us[i];
+        let y = us[j];
+        let first = t.word + x.word;
+        let second = s.word + y.word;
+        match first.cmp(&second) {
+            Ordering::Less => {
+                shares.push_reserved(share_of(s, y, minus));
+                j += 1;
+            }
+            Ordering::Equal => {
+                shares.push_reserved(joined(share_of(t, x, minus), share_of(s, y, minus)));
+                i += 1;
+                j += 1;
+            }
+            Ordering::Greater => {
+                shares.push_reserved(share_of(t, x, minus));
+                i += 1;
+            }
+        }
+    }
+    add_row(&mut shares, t, &us[i..], minus);
+    add_row(&mut shares, s, &us[j..], minus);
+    Ok(shares)
+}
+
+// Adds the contributions of one term, for which there is room.
+#[inline(always)]
+fn add_row(shares: &mut Vec<PackedShare>, t: PackedTerm, us: &[PackedTerm], minus: bool)
+    requires room { vec_len shares.old + length us.now ≤ vec_capacity shares.old }
+    ensures row { IsRowAdded minus t us.now shares.old.items shares.new.items }
+    ensures length { vec_len shares.new ≡ vec_len shares.old + length us.now }
+    ensures capacity { vec_capacity shares.new ≡ vec_capacity shares.old }
+{
+    for u in us {
+        shares.push_reserved(share_of(t, *u, minus));
+    }
 }
 
 // The share of one contribution.
