@@ -21,3 +21,4 @@ pub mod Layouts
 pub mod Packings
 pub mod PackedTerms
 pub mod PackedSqueezes
+pub mod PackedPairs

@@ -13,18 +13,19 @@ use Rattle.monomial.specs.Monomials.{exponent, monomial_times, monomial_cmp, too
 use Rattle.monomial.proofs.Exponents.{exponent_here, exponent_there, exponent-times, IsPowers-times, too_high-IsMonomial}
 use Rattle.monomial.proofs.Total.{monomial_cmp-IsTotalOrder}
 use Rattle.sparse_poly.specs.declared.Term.{Term}
+use Rattle.sparse_poly.specs.declared.entry.Share.{Share}
 use Rattle.sparse_poly.specs.declared.packed_entry.PackedTerm.{PackedTerm}
 use Rattle.sparse_poly.specs.declared.packed_entry.PackedShare.{PackedShare}
 use Rattle.sparse_poly.specs.Polynomials.{row, products, negated}
 use Rattle.sparse_poly.specs.Contributions.{signed_products, higher, degree_of, IsFalling}
 use Rattle.sparse_poly.specs.Standing.{Stands, AllBelow, IsDescending}
 use Rattle.sparse_poly.specs.Packing.{AreFalling, IsLayout, word_of, monomial_of, FitsLayout}
-use Rattle.sparse_poly.specs.Packed.{term_read, terms_read, shares_read, term_words, share_words, AreProducts, AllPackedIn, IsPackedIn, AllUnder, AllHalves, IsPackedProduct}
+use Rattle.sparse_poly.specs.Packed.{term_read, terms_read, shares_read, term_words, share_words, AreProducts, AllPackedIn, IsPackedIn, AllUnder, AllHalves, AreOrdered, IsPackedProduct}
 use Rattle.sparse_poly.proofs.Adding.{degree_of-append}
 use Rattle.sparse_poly.proofs.Descending.{all_map, all_more}
 use Rattle.sparse_poly.proofs.Words.{word_of-times, word_half, monomial_of-word, IsPowers-monomial_of, IsMonomial-monomial_of, lower_monomial}
 use Rattle.sparse_poly.proofs.Layouts.{take_more, take_all}
-use Rattle.sparse_poly.proofs.Packings.{terms_read-append}
+use Rattle.sparse_poly.proofs.Packings.{terms_read-append, halves_sums}
 
 -- exponents of what fits a layout
 pub fits_small : (vs : List ℕ) (m : List (ℕ × ℕ)) (v : ℕ) → FitsLayout vs m → exponent m v ≤ 32767
@@ -160,19 +161,25 @@ halves_of : (vs : List ℕ) (ts : List PackedTerm) → AllPackedIn vs ts → All
 halves_of vs [] a = tt
 halves_of vs (t ∷ ts) a = (subst (λ w. w + w < 2 ^ (16 * length vs)) (sym a.0.word) (word_half vs (monomial_of vs t.word) (λ v. fits_small vs _ v a.0.fits)), halves_of vs ts a.1)
 
--- the product of two lists of packed terms
-module _ (vs : List ℕ) (minus : Bool) (ts us : List Term) (ps qs : List PackedTerm) (ss : List PackedShare) (y : IsLayout vs) (e : terms_read (monomial_of vs) ps ≡ ts) (f : terms_read (monomial_of vs) qs ≡ us) (a : AllPackedIn vs ps) (b : AllPackedIn vs qs) (g : IsPackedProduct minus ps qs ss) where
-  pub product_stands : Stands (shares_read (monomial_of vs) ss) (signed_products minus ts us)
-  product_stands = subst (λ xs. Stands (shares_read (monomial_of vs) ss) (signed_products minus xs us)) e (subst (λ xs. Stands (shares_read (monomial_of vs) ss) (signed_products minus (terms_read (monomial_of vs) ps) xs)) f (g.sums (monomial_of vs) (are_products vs ps qs y a b)))
+-- the product of two lists of packed terms, of which the first may be a part of more
+pub AreOrdered-product : (vs : List ℕ) (minus : Bool) (us : List Term) (ps qs : List PackedTerm) (ss : List PackedShare) → IsLayout vs → terms_read (monomial_of vs) qs ≡ us → AllPackedIn vs ps → AllPackedIn vs qs → IsFalling us → IsPackedProduct minus ps qs ss → AreOrdered vs ss
+AreOrdered-product vs minus us ps qs ss y f a b h g = record {
+  falling = g.falling (falling_words vs qs y b (subst IsFalling (sym f) h));
+  under = g.under (2 ^ (16 * length vs)) (halves_of vs ps a) (halves_of vs qs b);
+}
+
+module _ (vs : List ℕ) (minus : Bool) (ts us : List Term) (ps qs : List PackedTerm) (y : IsLayout vs) (e : terms_read (monomial_of vs) ps ≡ ts) (f : terms_read (monomial_of vs) qs ≡ us) (a : AllPackedIn vs ps) (b : AllPackedIn vs qs) where
+  read_both : (ss : List Share) → Stands ss (signed_products minus (terms_read (monomial_of vs) ps) (terms_read (monomial_of vs) qs)) → Stands ss (signed_products minus ts us)
+  read_both ss h = subst (λ xs. Stands ss (signed_products minus xs us)) e (subst (λ xs. Stands ss (signed_products minus (terms_read (monomial_of vs) ps) xs)) f h)
+
+  pub product_stands : (ss : List PackedShare) → IsPackedProduct minus ps qs ss → Stands (shares_read (monomial_of vs) ss) (signed_products minus ts us)
+  product_stands ss g = read_both _ (g.sums (monomial_of vs) (are_products vs ps qs y a b))
+
+  pub halves_stand : (xs zs : List PackedTerm) (fs bs : List PackedShare) → ps ≡ xs ++ zs → IsPackedProduct minus xs qs fs → IsPackedProduct minus zs qs bs → Stands (shares_read (monomial_of vs) fs ++ shares_read (monomial_of vs) bs) (signed_products minus ts us)
+  halves_stand xs zs fs bs s g h = read_both _ (halves_sums minus ps qs xs zs fs bs s g h (monomial_of vs) (are_products vs ps qs y a b))
 
   pub product_degree : degree_of (signed_products minus ts us) ≡ None
   product_degree = subst (λ xs. degree_of (signed_products minus xs us) ≡ None) e (subst (λ xs. degree_of (signed_products minus (terms_read (monomial_of vs) ps) xs) ≡ None) f (degree_of-signed minus _ _ (degree_of-products vs ps qs y a b)))
-
-  pub product_falling : IsFalling us → AreFalling (share_words ss)
-  product_falling h = g.falling (falling_words vs qs y b (subst IsFalling (sym f) h))
-
-  pub product_under : AllUnder (2 ^ (16 * length vs)) (share_words ss)
-  product_under = g.under (2 ^ (16 * length vs)) (halves_of vs ps a) (halves_of vs qs b)
 
 -- falling words are read as falling monomials
 pub IsDescending-read : (vs : List ℕ) (ss : List PackedShare) → IsLayout vs → AreFalling (share_words ss) → AllUnder (2 ^ (16 * length vs)) (share_words ss) → IsDescending (shares_read (monomial_of vs) ss)

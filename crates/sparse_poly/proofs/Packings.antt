@@ -1,8 +1,10 @@
 -- Packed shares: their merges, and what the contributions to a product stand for.
-use Rattle.std.specs.Prelude.{zero, suc, ◌≡◌, ◌<◌, ◌≤◌, ℕ, ◌+◌, ◌-◌, Bool, true, false, if◌then◌else◌, ℤ, pos, unsigned_abs, ◌+ℤ◌, ◌*ℤ◌, List, [], ◌∷◌, ◌++◌, length, drop, slice_index_or, refl}
+use Rattle.std.specs.Prelude.{zero, suc, ◌≡◌, ◌<◌, ◌≤◌, ℕ, ◌+◌, ◌-◌, Bool, true, false, if◌then◌else◌, ℤ, pos, unsigned_abs, ◌+ℤ◌, ◌*ℤ◌, List, [], ◌∷◌, ◌++◌, length, take, drop, slice_index_or, refl}
 use mathlib.Core.Logic.{◌⊎◌, inl, inr}
 use Rattle.std.proofs.Common.{arith, sym, ◌∙◌, ap, subst, append_assoc}
 use Rattle.std.proofs.lemmas.Int.{ints}
+use Rattle.std.proofs.lemmas.List.{take-append-drop}
+use Rattle.std.proofs.lemmas.Slice.{between_to_end}
 use Rattle.std.specs.Ordering.{is_eq}
 use Rattle.monomial.specs.Monomials.{monomial_cmp, monomial_times}
 use Rattle.sparse_poly.specs.declared.Term.{Term}
@@ -11,10 +13,11 @@ use Rattle.sparse_poly.specs.declared.packed_entry.PackedTerm.{PackedTerm}
 use Rattle.sparse_poly.specs.declared.packed_entry.PackedShare.{PackedShare}
 use Rattle.sparse_poly.specs.Contributions.{signed, signed_row, signed_products}
 use Rattle.sparse_poly.specs.Standing.{ssum, sweight, Agree, Stands}
-use Rattle.sparse_poly.specs.Packed.{Reading, term_read, terms_read, share_read, shares_read, term_words, share_words, AllUnder, AllHalves, IsPackedRow, IsPackedProduct, IsPackedMerge}
+use Rattle.sparse_poly.specs.Packing.{AreFalling}
+use Rattle.sparse_poly.specs.Packed.{Reading, term_read, terms_read, share_read, shares_read, term_words, share_words, AreProducts, AllUnder, AllHalves, raised, IsPackedRow, IsRowAdded, IsPackedProduct, IsPackedMerge}
 use Rattle.sparse_poly.proofs.Evaluation.{zero_plus}
 use Rattle.sparse_poly.proofs.Adding.{signed_products-append, signed_products-one}
-use Rattle.sparse_poly.proofs.Standings.{agree_plus, agree_through, same_agrees, Stands-both, no_products}
+use Rattle.sparse_poly.proofs.Standings.{agree_plus, agree_through, same_agrees, Stands-both, Stands-append, no_products}
 use Rattle.sparse_poly.proofs.Descending.{all_front, all_back, all_map}
 use Rattle.sparse_poly.proofs.Layouts.{drop_one, drop_end}
 
@@ -69,7 +72,7 @@ weight_of r m s = if is_eq (monomial_cmp m (r s.word)) then s.weight else 0
 abbrev sum_of : Reading → List (ℕ × ℕ) → PackedShare → ℤ
 sum_of r m s = if is_eq (monomial_cmp m (r s.word)) then s.sum else pos 0
 
-merge_first : (x y : PackedShare) (xs ys zs : List PackedShare) → y.word < x.word → IsPackedMerge xs (y ∷ ys) zs → IsPackedMerge (x ∷ xs) (y ∷ ys) (x ∷ zs)
+pub merge_first : (x y : PackedShare) (xs ys zs : List PackedShare) → y.word < x.word → IsPackedMerge xs (y ∷ ys) zs → IsPackedMerge (x ∷ xs) (y ∷ ys) (x ∷ zs)
 merge_first x y xs ys zs l g = record {
   both = λ r m. agree_through _ _ _ _ _ _ (agree_plus (weight_of r m x) (weight_of r m x) _ _ (sum_of r m x) (sum_of r m x) _ _ (inl (refl, refl)) (g.both r m))
       (same_agrees _ _ _ _ (assoc (weight_of r m x) _ _) (assoc_sum (sum_of r m x) (ssum (shares_read r xs) m) (ssum (shares_read r (y ∷ ys)) m)));
@@ -83,7 +86,7 @@ merge_first x y xs ys zs l g = record {
     assoc_sum : (a b c : ℤ) → a +ℤ (b +ℤ c) ≡ (a +ℤ b) +ℤ c
     assoc_sum a b c = omega (arith, ints)
 
-merge_second : (x y : PackedShare) (xs ys zs : List PackedShare) → x.word < y.word → IsPackedMerge (x ∷ xs) ys zs → IsPackedMerge (x ∷ xs) (y ∷ ys) (y ∷ zs)
+pub merge_second : (x y : PackedShare) (xs ys zs : List PackedShare) → x.word < y.word → IsPackedMerge (x ∷ xs) ys zs → IsPackedMerge (x ∷ xs) (y ∷ ys) (y ∷ zs)
 merge_second x y xs ys zs l g = record {
   both = λ r m. agree_through _ _ _ _ _ _ (agree_plus (weight_of r m y) (weight_of r m y) _ _ (sum_of r m y) (sum_of r m y) _ _ (inl (refl, refl)) (g.both r m))
       (same_agrees _ _ _ _ (assoc (weight_of r m y) (sweight (shares_read r (x ∷ xs)) m) (sweight (shares_read r ys) m)) (assoc_sum (sum_of r m y) (ssum (shares_read r (x ∷ xs)) m) (ssum (shares_read r ys) m)));
@@ -102,7 +105,7 @@ joined_at : (b : Bool) (z x y : PackedShare) → Agree z.weight z.sum (x.weight 
 joined_at true z x y a = a
 joined_at false z x y a = inl (omega arith, omega (arith, ints))
 
-merge_both : (x y z : PackedShare) (xs ys zs : List PackedShare) → x.word ≡ y.word → z.word ≡ x.word → Agree z.weight z.sum (x.weight + y.weight) (x.sum +ℤ y.sum) → IsPackedMerge xs ys zs → IsPackedMerge (x ∷ xs) (y ∷ ys) (z ∷ zs)
+pub merge_both : (x y z : PackedShare) (xs ys zs : List PackedShare) → x.word ≡ y.word → z.word ≡ x.word → Agree z.weight z.sum (x.weight + y.weight) (x.sum +ℤ y.sum) → IsPackedMerge xs ys zs → IsPackedMerge (x ∷ xs) (y ∷ ys) (z ∷ zs)
 merge_both x y z xs ys zs e f a g = record {
   both = λ r m. agree_through _ _ _ _ _ _ (agree_plus _ _ _ _ _ _ _ _ (head r m) (g.both r m))
       (same_agrees _ _ _ _ (pairs (weight_of r m x) (weight_of r m y) _ _) (pairs_sum (sum_of r m x) (sum_of r m y) (ssum (shares_read r xs) m) (ssum (shares_read r ys) m)));
@@ -181,45 +184,58 @@ Stands-cons s t ss cs e a g m = agree_plus _ _ _ _ _ _ _ _ (subst (λ n. Agree (
     either false = inl (refl, refl)
 
 -- rows
-row_none : (minus : Bool) (t : PackedTerm) → IsPackedRow minus t [] []
-row_none minus t = record { sums = λ r p. none minus (term_read r t); falling = λ f. tt; under = λ n a. tt }
+pub row_none : (minus : Bool) (t : PackedTerm) → IsPackedRow minus t [] []
+row_none minus t = record { sums = λ r p. none minus (term_read r t); words = refl }
   where
     none : (b : Bool) (t : Term) → Stands [] (signed_row b t [])
     none false t m = inl (refl, refl)
     none true t m = inl (refl, refl)
 
-row_more : (minus : Bool) (t u : PackedTerm) (us : List PackedTerm) (s : PackedShare) (ss : List PackedShare) → s.word ≡ t.word + u.word → Agree s.weight s.sum (unsigned_abs (signed minus (t.coeff *ℤ u.coeff))) (signed minus (t.coeff *ℤ u.coeff)) → IsPackedRow minus t us ss → IsPackedRow minus t (u ∷ us) (s ∷ ss)
+pub row_more : (minus : Bool) (t u : PackedTerm) (us : List PackedTerm) (s : PackedShare) (ss : List PackedShare) → s.word ≡ t.word + u.word → Agree s.weight s.sum (unsigned_abs (signed minus (t.coeff *ℤ u.coeff))) (signed minus (t.coeff *ℤ u.coeff)) → IsPackedRow minus t us ss → IsPackedRow minus t (u ∷ us) (s ∷ ss)
 row_more minus t u us s ss e a g = record {
   sums = λ r p. more minus r (ap r e ∙ p.0.0) a (g.sums r (p.0.1, tt));
-  falling = λ f. (subst (λ n. AllUnder n (share_words ss)) (sym e) (g.under u.word f.0), g.falling f.1);
-  under = λ n b. (omega (arith, e, b.0), g.under n b.1);
+  words = ap (λ w. w ∷ share_words ss) e ∙ ap (λ ws. (t.word + u.word) ∷ ws) g.words;
 }
   where
     more : (b : Bool) (r : Reading) → r s.word ≡ monomial_times (r t.word) (r u.word) → Agree s.weight s.sum (unsigned_abs (signed b (t.coeff *ℤ u.coeff))) (signed b (t.coeff *ℤ u.coeff)) → Stands (shares_read r ss) (signed_row b (term_read r t) (terms_read r us)) → Stands (shares_read r (s ∷ ss)) (signed_row b (term_read r t) (terms_read r (u ∷ us)))
     more false r f a st = Stands-cons (share_read r s) _ _ _ f a st
     more true r f a st = Stands-cons (share_read r s) _ _ _ f a st
 
-pub PackedRowing : Bool → PackedTerm → List PackedTerm → ℕ → List PackedShare → Type 0
-PackedRowing minus t us k out = (zs : List PackedShare) → IsPackedRow minus t (drop k us) zs → IsPackedRow minus t us (out ++ zs)
+-- how far a row has come: with any row of what is left it makes one of all
+pub RowAdding : Bool → PackedTerm → List PackedTerm → List PackedShare → ℕ → List PackedShare → Type 0
+RowAdding minus t us old k out = (zs : List PackedShare) → IsPackedRow minus t (drop k us) zs → IsRowAdded minus t us old (out ++ zs)
 
-pub PackedRowing-start : (minus : Bool) (t : PackedTerm) (us : List PackedTerm) → PackedRowing minus t us 0 []
-unfolding PackedRowing
-PackedRowing-start minus t us = λ zs h. h
+pub RowAdding-start : (minus : Bool) (t : PackedTerm) (us : List PackedTerm) (old : List PackedShare) → RowAdding minus t us old 0 old
+unfolding RowAdding
+RowAdding-start minus t us old = λ zs h. record { row = zs; is_row = h; items = refl }
 
-pub PackedRowing-more : (minus : Bool) (t u : PackedTerm) (us : List PackedTerm) (k : ℕ) (s : PackedShare) (out : List PackedShare) → k < length us → u ≡ slice_index_or us k u → s.word ≡ t.word + u.word → Agree s.weight s.sum (unsigned_abs (signed minus (t.coeff *ℤ u.coeff))) (signed minus (t.coeff *ℤ u.coeff)) → PackedRowing minus t us k out → PackedRowing minus t us (k + 1) (out ++ s ∷ [])
-unfolding PackedRowing
-PackedRowing-more minus t u us k s out h e w a g = λ zs m. subst (IsPackedRow minus t us) (sym (append_assoc out (s ∷ []) zs)) (g (s ∷ zs) (subst (λ vs. IsPackedRow minus t vs (s ∷ zs)) (sym (drop_at us k u h e)) (row_more minus t u _ s zs w a m)))
+pub RowAdding-more : (minus : Bool) (t u : PackedTerm) (us : List PackedTerm) (old : List PackedShare) (k : ℕ) (s : PackedShare) (out : List PackedShare) → k < length us → u ≡ slice_index_or us k u → s.word ≡ t.word + u.word → Agree s.weight s.sum (unsigned_abs (signed minus (t.coeff *ℤ u.coeff))) (signed minus (t.coeff *ℤ u.coeff)) → RowAdding minus t us old k out → RowAdding minus t us old (k + 1) (out ++ s ∷ [])
+unfolding RowAdding
+RowAdding-more minus t u us old k s out h e w a g = λ zs m. subst (IsRowAdded minus t us old) (sym (append_assoc out (s ∷ []) zs)) (g (s ∷ zs) (subst (λ vs. IsPackedRow minus t vs (s ∷ zs)) (sym (drop_at us k u h e)) (row_more minus t u _ s zs w a m)))
+
+pub RowAdding-end : (minus : Bool) (t : PackedTerm) (us : List PackedTerm) (old : List PackedShare) (k : ℕ) (out : List PackedShare) → length us ≤ k → RowAdding minus t us old k out → IsRowAdded minus t us old out
+unfolding RowAdding
+RowAdding-end minus t us old k out h g = subst (IsRowAdded minus t us old) (append_end out) (g [] (subst (λ vs. IsPackedRow minus t vs []) (sym (drop_end us k h)) (row_none minus t)))
+
+-- words with one word added to each fall as they do
+raised_under : (w n : ℕ) (vs : List ℕ) → AllUnder n vs → AllUnder (w + n) (raised w vs)
+raised_under w n [] h = tt
+raised_under w n (v ∷ vs) h = (omega (arith, h.0), raised_under w n vs h.1)
+
+raised_falling : (w : ℕ) (vs : List ℕ) → AreFalling vs → AreFalling (raised w vs)
+raised_falling w [] f = tt
+raised_falling w (v ∷ vs) f = (raised_under w v vs f.0, raised_falling w vs f.1)
 
 -- products
 pub product_none : (minus : Bool) (ts us : List PackedTerm) → length ts ≡ 0 → IsPackedProduct minus ts us []
 product_none minus [] us e = record { sums = λ r p. subst (Stands []) (sym (no_products minus (terms_read r us))) (λ m. inl (refl, refl)); falling = λ f. tt; under = λ n a b. tt }
 product_none minus (t ∷ ts) us e = absurd (omega arith)
 
-product_one : (minus : Bool) (t : PackedTerm) (us : List PackedTerm) (ss : List PackedShare) → IsPackedRow minus t us ss → IsPackedProduct minus (t ∷ []) us ss
+pub product_one : (minus : Bool) (t : PackedTerm) (us : List PackedTerm) (ss : List PackedShare) → IsPackedRow minus t us ss → IsPackedProduct minus (t ∷ []) us ss
 product_one minus t us ss g = record {
   sums = λ r p. subst (Stands (shares_read r ss)) (sym (signed_products-one minus (term_read r t) (terms_read r us))) (g.sums r p);
-  falling = g.falling;
-  under = λ n a b. subst (λ k. AllUnder k (share_words ss)) (whole n t.word a.0) (g.under (n - t.word) (all_map (λ w. w + w < n) (λ w. w < n - t.word) (term_words us) (λ w h. omega (arith, a.0)) b));
+  falling = λ f. subst AreFalling (sym g.words) (raised_falling t.word (term_words us) f);
+  under = λ n a b. subst (AllUnder n) (sym g.words) (subst (λ k. AllUnder k (raised t.word (term_words us))) (whole n t.word a.0) (raised_under t.word (n - t.word) (term_words us) (all_map (λ w. w + w < n) (λ w. w < n - t.word) (term_words us) (λ w h. omega (arith, a.0)) b)));
 }
   where
     whole : (n w : ℕ) → w + w < n → w + (n - w) ≡ n
@@ -230,9 +246,8 @@ alone [] t e f = absurd (omega arith)
 alone (x ∷ []) t e f = ap (λ y. y ∷ []) (sym f)
 alone (x ∷ y ∷ xs) t e f = absurd (omega arith)
 
-pub PackedRowing-end : (minus : Bool) (t : PackedTerm) (us : List PackedTerm) (k : ℕ) (out : List PackedShare) → length us ≤ k → PackedRowing minus t us k out → IsPackedProduct minus (t ∷ []) us out
-unfolding PackedRowing
-PackedRowing-end minus t us k out h g = product_one minus t us out (subst (IsPackedRow minus t us) (append_end out) (g [] (subst (λ vs. IsPackedRow minus t vs []) (sym (drop_end us k h)) (row_none minus t))))
+pub product_row : (minus : Bool) (t : PackedTerm) (us : List PackedTerm) (ss : List PackedShare) → IsRowAdded minus t us [] ss → IsPackedProduct minus (t ∷ []) us ss
+product_row minus t us ss g = subst (IsPackedProduct minus (t ∷ []) us) (sym g.items) (product_one minus t us g.row g.is_row)
 
 pub terms_read-append : (r : Reading) (xs ys : List PackedTerm) → terms_read r (xs ++ ys) ≡ terms_read r xs ++ terms_read r ys
 terms_read-append r [] ys = refl
@@ -242,9 +257,21 @@ term_words-append : (xs ys : List PackedTerm) → term_words (xs ++ ys) ≡ term
 term_words-append [] ys = refl
 term_words-append (x ∷ xs) ys = ap (λ zs. x.word ∷ zs) (term_words-append xs ys)
 
+pub term_halves : (ts : List PackedTerm) (k : ℕ) → ts ≡ take k ts ++ take (length ts - k) (drop k ts)
+term_halves ts k = sym (ap (λ zs. take k ts ++ zs) (between_to_end ts k (length ts) (omega arith)) ∙ take-append-drop k ts)
+
+append_products : (minus : Bool) (r : Reading) (ts us xs ys : List PackedTerm) → ts ≡ xs ++ ys → signed_products minus (terms_read r ts) (terms_read r us) ≡ signed_products minus (terms_read r xs) (terms_read r us) ++ signed_products minus (terms_read r ys) (terms_read r us)
+append_products minus r ts us xs ys e = ap (λ ws. signed_products minus ws (terms_read r us)) (ap (terms_read r) e ∙ terms_read-append r xs ys) ∙ signed_products-append minus (terms_read r xs) (terms_read r ys) (terms_read r us)
+
+-- the contributions of both halves of a factor
+pub halves_sums : (minus : Bool) (ts us xs ys : List PackedTerm) (fs bs : List PackedShare) → ts ≡ xs ++ ys → IsPackedProduct minus xs us fs → IsPackedProduct minus ys us bs → (r : Reading) → AreProducts r ts us → Stands (shares_read r fs ++ shares_read r bs) (signed_products minus (terms_read r ts) (terms_read r us))
+halves_sums minus ts us xs ys fs bs e f b r p =
+    let both : AreProducts r (xs ++ ys) us = subst (λ ws. AreProducts r ws us) e p in
+    subst (Stands (shares_read r fs ++ shares_read r bs)) (sym (append_products minus r ts us xs ys e)) (Stands-append _ _ _ _ (f.sums r (all_front _ xs ys both)) (b.sums r (all_back _ xs ys both)))
+
 pub product_halves : (minus : Bool) (ts us xs ys : List PackedTerm) (fs bs zs : List PackedShare) → ts ≡ xs ++ ys → IsPackedProduct minus xs us fs → IsPackedProduct minus ys us bs → IsPackedMerge fs bs zs → IsPackedProduct minus ts us zs
 product_halves minus ts us xs ys fs bs zs e f b m = subst (λ ws. IsPackedProduct minus ws us zs) (sym e) (record {
-  sums = λ r p. subst (Stands (shares_read r zs)) (sym (ap (λ ws. signed_products minus ws (terms_read r us)) (terms_read-append r xs ys) ∙ signed_products-append minus (terms_read r xs) (terms_read r ys) (terms_read r us)))
+  sums = λ r p. subst (Stands (shares_read r zs)) (sym (append_products minus r (xs ++ ys) us xs ys refl))
       (Stands-both _ _ _ _ _ (m.both r) (f.sums r (all_front _ xs ys p)) (b.sums r (all_back _ xs ys p)));
   falling = λ h. m.falling (f.falling h) (b.falling h);
   under = λ n a h. let both : AllHalves n (term_words xs ++ term_words ys) = subst (AllHalves n) (term_words-append xs ys) a in

@@ -1,5 +1,7 @@
 -- Packed terms and shares, and what they stand for where each word is read as a monomial.
-use Rattle.std.specs.Prelude.{◌≡◌, ◌<◌, ℕ, ◌+◌, Bool, List, [], ◌∷◌}
+use Rattle.std.specs.Prelude.{◌≡◌, ◌<◌, ◌≤◌, ℕ, ◌+◌, ◌-◌, ◌*◌, ◌^◌, Bool, List, [], ◌∷◌, ◌++◌, length, drop}
+use Rattle.std.specs.declared.option.Option.{Option}
+use Rattle.std.specs.declared.option.Option.TheVariants.{None, Some}
 use Rattle.std.specs.List.{AllByRecursion}
 use Rattle.monomial.specs.Monomials.{monomial_times}
 use Rattle.sparse_poly.specs.declared.Term.{Term}
@@ -7,8 +9,8 @@ use Rattle.sparse_poly.specs.declared.entry.Share.{Share}
 use Rattle.sparse_poly.specs.declared.packed_entry.PackedTerm.{PackedTerm}
 use Rattle.sparse_poly.specs.declared.packed_entry.PackedShare.{PackedShare}
 use Rattle.sparse_poly.specs.Contributions.{signed_row, signed_products}
-use Rattle.sparse_poly.specs.Standing.{Stands, StandsForBoth}
-use Rattle.sparse_poly.specs.Packing.{AreFalling, word_of, monomial_of, FitsLayout}
+use Rattle.sparse_poly.specs.Standing.{Stands, StandsForBoth, IsTaken}
+use Rattle.sparse_poly.specs.Packing.{AreFalling, IsLayout, word_of, monomial_of, FitsLayout}
 
 -- a way to read words
 abbrev pub Reading : Type 0
@@ -56,11 +58,21 @@ AllUnder n ws = AllByRecursion (λ w. w < n) ws
 abbrev pub AllHalves : ℕ → List ℕ → Type 0
 AllHalves n ws = AllByRecursion (λ w. w + w < n) ws
 
--- the contributions of one term, falling
+-- words with one word added to each
+abbrev pub raised : ℕ → List ℕ → List ℕ
+raised w [] = []
+raised w (v ∷ vs) = (w + v) ∷ raised w vs
+
+-- the contributions of one term, in the order of the terms
 pub record IsPackedRow (minus : Bool) (t : PackedTerm) (us : List PackedTerm) (ss : List PackedShare) : Type 0 where
   pub sums : (r : Reading) → AreProducts r (t ∷ []) us → Stands (shares_read r ss) (signed_row minus (term_read r t) (terms_read r us))
-  pub falling : AreFalling (term_words us) → AreFalling (share_words ss)
-  pub under : (n : ℕ) → AllUnder n (term_words us) → AllUnder (t.word + n) (share_words ss)
+  pub words : share_words ss ≡ raised t.word (term_words us)
+
+-- the contributions of one term were added to shares
+pub record IsRowAdded (minus : Bool) (t : PackedTerm) (us : List PackedTerm) (old new : List PackedShare) : Type 0 where
+  pub row : List PackedShare
+  pub is_row : IsPackedRow minus t us row
+  pub items : new ≡ old ++ row
 
 -- the contributions to a product, falling
 pub record IsPackedProduct (minus : Bool) (ts us : List PackedTerm) (ss : List PackedShare) : Type 0 where
@@ -73,3 +85,18 @@ pub record IsPackedMerge (xs ys zs : List PackedShare) : Type 0 where
   pub both : (r : Reading) → StandsForBoth (shares_read r zs) (shares_read r xs) (shares_read r ys)
   pub falling : AreFalling (share_words xs) → AreFalling (share_words ys) → AreFalling (share_words zs)
   pub under : (n : ℕ) → AllUnder n (share_words xs) → AllUnder n (share_words ys) → AllUnder n (share_words zs)
+
+-- the words of shares fall, and each is one of a layout
+pub record AreOrdered (vs : List ℕ) (ss : List PackedShare) : Type 0 where
+  pub falling : AreFalling (share_words ss)
+  pub under : AllUnder (2 ^ (16 * length vs)) (share_words ss)
+
+-- s is the greatest share of two lists from i and j on, and k and l are the places after it
+pub record IsPackedTaken (xs ys : List PackedShare) (i j k l : ℕ) (s : PackedShare) : Type 0 where
+  pub shorter : (length xs - k) + (length ys - l) < (length xs - i) + (length ys - j)
+  pub taken : (vs : List ℕ) → IsLayout vs → AreOrdered vs xs → AreOrdered vs ys → IsTaken (shares_read (monomial_of vs) (drop i xs)) (shares_read (monomial_of vs) (drop j ys)) (shares_read (monomial_of vs) (drop k xs)) (shares_read (monomial_of vs) (drop l ys)) (share_read (monomial_of vs) s)
+
+-- the next share of two lists
+abbrev pub IsPackedNext : List PackedShare → List PackedShare → ℕ → ℕ → ℕ → ℕ → Option PackedShare → Type 0
+IsPackedNext xs ys i j k l (Some s) = IsPackedTaken xs ys i j k l s
+IsPackedNext xs ys i j k l None = (length xs ≤ i) × (length ys ≤ j)

@@ -8,7 +8,7 @@ ghost use Rattle.sparse_poly.specs.Standing.{Agree, Stands, AllMonomials, IsDesc
 
 use crate::entry::Share;
 use crate::merging::{merge, sorted};
-use crate::packing::{layout_for, packed_combination};
+use crate::packing::{layout_for, packed_combination, packed_multiplication};
 use crate::squeezing::squeeze;
 use crate::{PolyFault, Term};
 use monomial::{MonoFault, Monomial};
@@ -50,7 +50,7 @@ pub fn multiplied(alloc: Global, first: &[Term], second: &[Term]) -> Result<Vec<
     ensures { MatchResult result (λ v. IsResult (products first.now second.now) v.items) (IsFault (products first.now second.now)) }
 {
     if let Some(layout) = layout_for(first, second, &[], &[]) {
-        return packed_combination(alloc, &layout, first, second, &[], &[]);
+        return packed_multiplication(alloc, &layout, first, second);
     }
     let half = first.len() / 2;
     let mut high = None;

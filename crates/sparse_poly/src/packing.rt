@@ -1,10 +1,12 @@
 //! Products of polynomials whose monomials are words.
-ghost use Rattle.std.specs.Prelude.{◌≡◌, ◌<◌, ◌^◌, ◌≤◌, ◌+◌, ◌*◌, ◌+ℤ◌, ◌*ℤ◌, [], ◌∷◌, length, unsigned_abs, IfOk, IfSome, MatchResult};
+ghost use Rattle.std.specs.Prelude.{◌≡◌, ◌≤◌, ◌+◌, ◌+ℤ◌, ◌*ℤ◌, [], ◌∷◌, ◌++◌, length, unsigned_abs, IfOk, IfSome, MatchResult};
+ghost use Rattle.std.specs.Vec.{vec_len, vec_capacity};
 ghost use Rattle.std.specs.declared.option.Option.TheVariants.{None};
 ghost use Rattle.sparse_poly.specs.Contributions.{signed, degree_of, signed_products, contributions, IsPoly, IsResult, IsFault};
-ghost use Rattle.sparse_poly.specs.Standing.{Agree, Stands, IsDescending, IsLightSum, IsHeavyFault};
-ghost use Rattle.sparse_poly.specs.Packing.{monomial_of, IsLayout, AllFit, AreFalling};
-ghost use Rattle.sparse_poly.specs.Packed.{terms_read, shares_read, share_words, AllPackedIn, AllUnder, IsPackedProduct, IsPackedMerge};
+ghost use Rattle.sparse_poly.specs.Polynomials.{products};
+ghost use Rattle.sparse_poly.specs.Standing.{Agree, Stands, IsLightSum, IsHeavyFault};
+ghost use Rattle.sparse_poly.specs.Packing.{monomial_of, IsLayout, AllFit};
+ghost use Rattle.sparse_poly.specs.Packed.{terms_read, shares_read, AllPackedIn, AreOrdered, IsPackedNext, IsRowAdded, IsPackedProduct, IsPackedMerge};
 
 use crate::layout::Layout;
 use crate::multiplying::kept_product;
@@ -56,8 +58,29 @@ pub fn packed_combination(
 {
     let first = packed_product(alloc, layout, l, q, false)?;
     let second = packed_product(alloc, layout, a, p, true)?;
-    let shares = merge(alloc, &first, &second)?;
-    squeeze(alloc, layout, &shares)
+    squeeze(alloc, layout, &first, &second)
+}
+
+/// The terms of `l*q`, by words.
+pub fn packed_multiplication(
+    alloc: Global,
+    layout: &Layout,
+    l: &[Term],
+    q: &[Term],
+) -> Result<Vec<Term>, PolyFault>
+    requires layout { IsLayout layout.now.variables.items }
+    requires l_poly { IsPoly l.now }
+    requires q_poly { IsPoly q.now }
+    requires l_fits { AllFit layout.now.variables.items l.now }
+    requires q_fits { AllFit layout.now.variables.items q.now }
+    ensures { MatchResult result (λ v. IsResult (products l.now q.now) v.items) (IsFault (products l.now q.now)) }
+{
+    let ts = packed(alloc, layout, l)?;
+    let us = packed(alloc, layout, q)?;
+    let half = ts.len() / 2;
+    let first = part(alloc, &ts[..half], &us, false)?;
+    let second = part(alloc, &ts[half..], &us, false)?;
+    squeeze(alloc, layout, &first, &second)
 }
 
 // The contributions to a product.
@@ -75,8 +98,7 @@ fn packed_product(
     requires us_fits { AllFit layout.now.variables.items us.now }
     ensures sums { IfOk result (λ v. Stands (shares_read (monomial_of layout.now.variables.items) v.items) (signed_products minus ts.now us.now)) }
     ensures degree { IfOk result (λ _. degree_of (signed_products minus ts.now us.now) ≡ None) }
-    ensures falling { IfOk result (λ v. AreFalling (share_words v.items)) }
-    ensures under { IfOk result (λ v. AllUnder (2 ^ (16 * length layout.now.variables.items)) (share_words v.items)) }
+    ensures order { IfOk result (λ v. AreOrdered layout.now.variables.items v.items) }
 {
     let ts = packed(alloc, layout, ts)?;
     let us = packed(alloc, layout, us)?;
@@ -117,6 +139,9 @@ fn part(
     if n == 1 {
         return row_of(alloc, ts[0], us, minus);
     }
+    if n == 2 {
+        return pair_of(alloc, ts[0], ts[1], us, minus);
+    }
     let first = part(alloc, &ts[..n / 2], us, minus)?;
     let second = part(alloc, &ts[n / 2..], us, minus)?;
     merge(alloc, &first, &second)
@@ -132,10 +157,60 @@ fn row_of(
     ensures { IfOk result (λ v. IsPackedProduct minus (t ∷ []) us.now v.items) }
 {
     let mut shares = Vec::with_capacity(alloc, us.len())?;
-    for u in us {
-        shares.push(share_of(t, *u, minus))?;
-    }
+    add_row(&mut shares, t, us, minus);
     Ok(shares)
+}
+
+// The contributions of two terms.
+fn pair_of(
+    alloc: Global,
+    t: PackedTerm,
+    s: PackedTerm,
+    us: &[PackedTerm],
+    minus: bool,
+) -> Result<Vec<PackedShare>, AllocError>
+    ensures { IfOk result (λ v. IsPackedProduct minus (t ∷ s ∷ []) us.now v.items) }
+{
+    let mut shares = Vec::with_capacity(alloc, us.len().saturating_add(us.len()))?;
+    let mut i = 0;
+    let mut j = 0;
+    'both: while i < us.len() && j < us.len() {
+        let x = us[i];
+        let y = us[j];
+        let first = t.word + x.word;
+        let second = s.word + y.word;
+        match first.cmp(&second) {
+            Ordering::Less => {
+                shares.push_reserved(share_of(s, y, minus));
+                j += 1;
+            }
+            Ordering::Equal => {
+                shares.push_reserved(joined(share_of(t, x, minus), share_of(s, y, minus)));
+                i += 1;
+                j += 1;
+            }
+            Ordering::Greater => {
+                shares.push_reserved(share_of(t, x, minus));
+                i += 1;
+            }
+        }
+    }
+    add_row(&mut shares, t, &us[i..], minus);
+    add_row(&mut shares, s, &us[j..], minus);
+    Ok(shares)
+}
+
+// Adds the contributions of one term, for which there is room.
+#[inline(always)]
+fn add_row(shares: &mut Vec<PackedShare>, t: PackedTerm, us: &[PackedTerm], minus: bool)
+    requires room { vec_len shares.old + length us.now ≤ vec_capacity shares.old }
+    ensures row { IsRowAdded minus t us.now shares.old.items shares.new.items }
+    ensures length { vec_len shares.new ≡ vec_len shares.old + length us.now }
+    ensures capacity { vec_capacity shares.new ≡ vec_capacity shares.old }
+{
+    for u in us {
+        shares.push_reserved(share_of(t, *u, minus));
+    }
 }
 
 // The share of one contribution.
@@ -197,14 +272,63 @@ fn joined(x: PackedShare, y: PackedShare) -> PackedShare
     }
 }
 
-// The sums of falling shares.
-fn squeeze(alloc: Global, layout: &Layout, shares: &[PackedShare]) -> Result<Vec<Term>, PolyFault>
-    requires layout { IsLayout layout.now.variables.items }
-    requires falling { IsDescending (shares_read (monomial_of layout.now.variables.items) shares.now) }
-    ensures { MatchResult result (λ v. IsLightSum (shares_read (monomial_of layout.now.variables.items) shares.now) v.items) (IsHeavyFault (shares_read (monomial_of layout.now.variables.items) shares.now)) }
+// The greatest share of two falling lists from these places on, which go behind it.
+#[inline(always)]
+fn next_share(
+    first: &[PackedShare],
+    second: &[PackedShare],
+    i: &mut usize,
+    j: &mut usize,
+) -> Option<PackedShare>
+    ensures { IsPackedNext first.now second.now i.old j.old i.new j.new result }
 {
-    let mut terms = Vec::with_capacity(alloc, shares.len())?;
-    for share in shares {
+    if *i >= first.len() {
+        if *j >= second.len() {
+            return None;
+        }
+        let y = second[*j];
+        *j += 1;
+        return Some(y);
+    }
+    let x = first[*i];
+    if *j >= second.len() {
+        *i += 1;
+        return Some(x);
+    }
+    let y = second[*j];
+    match x.word.cmp(&y.word) {
+        Ordering::Less => {
+            *j += 1;
+            Some(y)
+        }
+        Ordering::Equal => {
+            *i += 1;
+            *j += 1;
+            Some(joined(x, y))
+        }
+        Ordering::Greater => {
+            *i += 1;
+            Some(x)
+        }
+    }
+}
+
+// The sums of two falling lists of shares.
+fn squeeze(
+    alloc: Global,
+    layout: &Layout,
+    first: &[PackedShare],
+    second: &[PackedShare],
+) -> Result<Vec<Term>, PolyFault>
+    requires layout { IsLayout layout.now.variables.items }
+    requires first { AreOrdered layout.now.variables.items first.now }
+    requires second { AreOrdered layout.now.variables.items second.now }
+    ensures { MatchResult result (λ v. IsLightSum (shares_read (monomial_of layout.now.variables.items) first.now ++ shares_read (monomial_of layout.now.variables.items) second.now) v.items) (IsHeavyFault (shares_read (monomial_of layout.now.variables.items) first.now ++ shares_read (monomial_of layout.now.variables.items) second.now)) }
+{
+    let mut terms = Vec::with_capacity(alloc, first.len().saturating_add(second.len()))?;
+    let mut i = 0;
+    let mut j = 0;
+    'shares: while let Some(share) = next_share(first, second, &mut i, &mut j) {
         if share.weight > i128::MAX as u128 {
             let monomial = layout.monomial(alloc, share.word)?;
             return Err(PolyFault::Heavy { monomial });
@@ -213,10 +337,10 @@ fn squeeze(alloc: Global, layout: &Layout, shares: &[PackedShare]) -> Result<Vec
             continue;
         }
         let monomial = layout.monomial(alloc, share.word)?;
-        terms.push(Term {
+        terms.push_reserved(Term {
             monomial,
             coeff: share.sum,
-        })?;
+        });
     }
     Ok(trimmed(terms))
 }

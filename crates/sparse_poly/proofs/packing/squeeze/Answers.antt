@@ -2,27 +2,50 @@ use Rattle.std.proofs.Common.{rules, arith, ◌≡◌, ◌≤◌, ◌<◌, to_z,
 use Rattle.std.specs.Int.{w128}
 use Rattle.sparse_poly.specs.Contributions.{max_coeff}
 use Rattle.sparse_poly.specs.Packing.{monomial_of}
+use Rattle.sparse_poly.specs.Packed.{share_read}
 use Rattle.sparse_poly.proofs.Words.{IsMonomial-monomial_of}
-use Rattle.sparse_poly.proofs.Squeezes.{zero_bits, apart_bits}
-use Rattle.sparse_poly.proofs.PackedSqueezes.{Squeezing-heavy, Squeezing-dropped, Squeezing-pushed, Squeezing-end}
+use Rattle.sparse_poly.proofs.PackedTerms.{IsDescending-read}
+use Rattle.sparse_poly.proofs.PackedSqueezes.{both_ended}
+use Rattle.sparse_poly.proofs.Squeezes.{Squeezed-start, Squeezed-dropped, Squeezed-pushed, Squeezed-heavy, Squeezed-end, zero_bits, apart_bits}
 use Rattle.sparse_poly.proofs.packing.squeeze.Goals as goal
+
+pub shares-init : goal.shares-init
+shares-init c = record {
+  squeezed = rw c.in_ok-terms.ensures.items (Squeezed-start _ _);
+  room = search rules;
+}
 
 pub returns-then-share : goal.returns-then-share
 returns-then-share c =
-    let heavy : max_coeff < c.share-item.result.weight = omega (arith, c.if-share.true) in
-    rw c.in_ok-monomial.ensures (Squeezing-heavy (monomial_of c.args.layout.now.variables.items) c.args.shares.now c.loop-share.share-index c.share-item.result c.loop-share.terms.items c.loop-share-test.true c.share-item.is c.loop-share.invariant heavy)
+    let vs = c.args.layout.now.variables.items in
+    let heavy : max_coeff < c.in-Some.share.weight = omega (arith, c.if-share.true) in
+    let first = IsDescending-read vs _ c.requires.layout c.requires.first.falling c.requires.first.under in
+    let second = IsDescending-read vs _ c.requires.layout c.requires.second.falling c.requires.second.under in
+    rw c.in_ok-monomial.ensures (Squeezed-heavy _ _ _ _ _ _ c.shares.terms.items (share_read (monomial_of vs) c.in-Some.share) first second c.shares.invariant.squeezed (c.in-Some.ensures.taken vs c.requires.layout c.requires.first c.requires.second) heavy)
 
-pub loop-share-preserved-then-share-eq0 : goal.loop-share-preserved-then-share-eq0
-loop-share-preserved-then-share-eq0 c =
-    let light : c.share-item.result.weight ≤ max_coeff = omega (arith, c.if-share.false) in
-    Squeezing-dropped (monomial_of c.args.layout.now.variables.items) c.args.shares.now c.loop-share.share-index c.share-item.result c.loop-share.terms.items c.loop-share-test.true c.share-item.is c.loop-share.invariant light (zero_bits _ (search rules) c.if-share-eq0.true)
+pub shares-preserved-then-share-eq0 : goal.shares-preserved-then-share-eq0
+shares-preserved-then-share-eq0 c =
+    let vs = c.args.layout.now.variables.items in
+    let light : c.in-Some.share.weight ≤ max_coeff = omega (arith, c.if-share.false) in
+    let first = IsDescending-read vs _ c.requires.layout c.requires.first.falling c.requires.first.under in
+    let second = IsDescending-read vs _ c.requires.layout c.requires.second.falling c.requires.second.under in
+    record {
+      squeezed = Squeezed-dropped _ _ _ _ _ _ _ (share_read (monomial_of vs) c.in-Some.share) first second c.shares.invariant.squeezed (c.in-Some.ensures.taken vs c.requires.layout c.requires.first c.requires.second) light (zero_bits _ (search rules) c.if-share-eq0.true);
+      room = omega (arith, c.in-Some.ensures.shorter, c.shares.invariant.room);
+    }
 
-pub loop-share-preserved : goal.loop-share-preserved
-loop-share-preserved c =
-    let light : c.share-item.result.weight ≤ max_coeff = omega (arith, c.if-share.false) in
-    let same : to_z w128 (of_z w128 c.share-item.result.sum) ≡ c.share-item.result.sum = search rules in
-    rw c.in_ok-push.ensures.items (Squeezing-pushed (monomial_of c.args.layout.now.variables.items) c.args.shares.now c.loop-share.share-index c.share-item.result c.loop-share.terms.items c.loop-share-test.true c.share-item.is c.loop-share.invariant _ light (apart_bits _ c.if-share-eq0.false) (IsMonomial-monomial_of c.args.layout.now.variables.items c.share-item.result.word c.requires.layout) c.in_ok-monomial-2.ensures same)
+pub shares-preserved : goal.shares-preserved
+shares-preserved c =
+    let vs = c.args.layout.now.variables.items in
+    let light : c.in-Some.share.weight ≤ max_coeff = omega (arith, c.if-share.false) in
+    let same : to_z w128 (of_z w128 c.in-Some.share.sum) ≡ c.in-Some.share.sum = search rules in
+    let first = IsDescending-read vs _ c.requires.layout c.requires.first.falling c.requires.first.under in
+    let second = IsDescending-read vs _ c.requires.layout c.requires.second.falling c.requires.second.under in
+    record {
+      squeezed = rw (c.push_reserved.ensures.items, same, c.in_ok-monomial-2.ensures) (Squeezed-pushed _ _ _ _ _ _ _ (share_read (monomial_of vs) c.in-Some.share) first second c.shares.invariant.squeezed (c.in-Some.ensures.taken vs c.requires.layout c.requires.first c.requires.second) light (apart_bits _ c.if-share-eq0.false) (IsMonomial-monomial_of vs c.in-Some.share.word c.requires.layout));
+      room = omega (arith, c.push_reserved.ensures.len, c.push_reserved.ensures.capacity, c.in-Some.ensures.shorter, c.shares.invariant.room);
+    }
 
 pub returns : goal.returns
 returns c =
-    rw c.trimmed.ensures (Squeezing-end (monomial_of c.args.layout.now.variables.items) c.args.shares.now c.loop-share.share-index c.loop-share.terms.items (omega (arith, c.loop-share-test.false)) c.loop-share.invariant)
+    rw c.trimmed.ensures (Squeezed-end _ _ _ _ c.shares.terms.items c.shares.invariant.squeezed (both_ended c.args.layout.now.variables.items _ _ _ _ _ _ c.next_share.result c.in_default.not-Some c.next_share.ensures))

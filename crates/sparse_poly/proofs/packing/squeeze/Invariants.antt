@@ -1,6 +1,15 @@
+use Rattle.std.proofs.Common.{length, drop, ◌+◌, ◌-◌, ◌≤◌}
+use Rattle.std.specs.Vec.{vec_len, vec_capacity}
 use Rattle.sparse_poly.specs.Packing.{monomial_of}
-use Rattle.sparse_poly.proofs.PackedSqueezes.{Squeezing}
+use Rattle.sparse_poly.specs.Packed.{shares_read}
+use Rattle.sparse_poly.proofs.Squeezes.{Squeezed}
 use Rattle.sparse_poly.proofs.packing.squeeze.Given as goal
 
-abbrev pub invariant-loop-share : goal.invariant-loop-share
-invariant-loop-share l = Squeezing (monomial_of l.layout.variables.items) l.shares l.share-index l.terms.items
+abbrev pub invariant-shares : goal.invariant-shares
+invariant-shares l = record {
+  squeezed : Squeezed (shares_read (monomial_of l.layout.variables.items) l.first) (shares_read (monomial_of l.layout.variables.items) l.second) (shares_read (monomial_of l.layout.variables.items) (drop l.i l.first)) (shares_read (monomial_of l.layout.variables.items) (drop l.j l.second)) l.terms.items;
+  room : vec_len l.terms + ((length l.first - l.i) + (length l.second - l.j)) ≤ vec_capacity l.terms;
+}
+
+abbrev pub decreases-shares : goal.decreases-shares
+decreases-shares l = (length l.first - l.i) + (length l.second - l.j)
