@@ -16,7 +16,7 @@ use Rattle.monomial.proofs.Total.{monomial_cmp-IsTotalOrder}
 use Rattle.monomial.specs.Monomials.{exponent, monomial_times, monomial_cmp, IsBelow, IsPowers, IsMonomial}
 use Rattle.monomial.proofs.Exponents.{exponent_here, exponent_there, exponent_above, exponent-times, same_from_exponents}
 use Rattle.monomial.proofs.Lower.{IsLower, cmp-from_IsLower}
-use Rattle.monomial.specs.Layouts.{AreFalling, IsLayout, word_of, lane, monomial_of, FitsLayout}
+use Rattle.monomial.specs.Layouts.{AreFalling, IsLayout, word_of, lane, monomial_of, FitsLayout, IsWordIn}
 
 -- members of a list
 pub Contains-head : (v : ℕ) (vs : List ℕ) → Contains (v ∷ vs) v
@@ -314,3 +314,30 @@ monomial_order vs a b f h k = each (nat_cmp a b) (ranked a b (nat_cmp a b) refl)
     each Less l = lower_monomial vs a b f k l
     each Equal e = ap (λ w. monomial_cmp (monomial_of vs a) (monomial_of vs w)) (sym e) ∙ tied_itself monomial_cmp-IsTotalOrder (monomial_of vs a)
     each Greater l = monomial_cmp-IsTotalOrder.antisymm (monomial_of vs a) (monomial_of vs b) ∙ ap ordering_reverse (lower_monomial vs b a f h l)
+
+-- a monomial that fits is that of its word
+pub fits_small : (vs : List ℕ) (m : List (ℕ × ℕ)) (v : ℕ) → FitsLayout vs m → exponent m v ≤ 32767
+fits_small vs [] v h = omega arith
+fits_small vs (p ∷ ps) v h = each (fits_small vs ps v h.1) (eqb_tells p.0 v)
+  where
+    each : exponent ps v ≤ 32767 → ((p.0 == v ≡ true) × (p.0 ≡ v)) ⊎ ((p.0 == v ≡ false) × (p.0 ≢ v)) → exponent (p ∷ ps) v ≤ 32767
+    each rest (inl (t, e)) = omega (arith, exponent_here p ps v e, h.0.1)
+    each rest (inr (t, n)) = omega (arith, exponent_there p ps v n)
+
+pub fits_known : (vs : List ℕ) (m : List (ℕ × ℕ)) (v : ℕ) → FitsLayout vs m → 0 < exponent m v → Contains vs v
+fits_known vs [] v h l = absurd (omega arith)
+fits_known vs (p ∷ ps) v h l = each (fits_known vs ps v h.1) (eqb_tells p.0 v)
+  where
+    each : (0 < exponent ps v → Contains vs v) → ((p.0 == v ≡ true) × (p.0 ≡ v)) ⊎ ((p.0 == v ≡ false) × (p.0 ≢ v)) → Contains vs v
+    each rest (inl (t, e)) = subst (Contains vs) e h.0.0
+    each rest (inr (t, n)) = rest (subst (λ k. 0 < k) (exponent_there p ps v n) l)
+
+pub fitting_monomial : (vs : List ℕ) (m : List (ℕ × ℕ)) (w : ℕ) → IsLayout vs → IsPowers m → FitsLayout vs m → w ≡ word_of vs m → monomial_of vs w ≡ m
+fitting_monomial vs m w y h f e =
+    monomial_of-word vs m w y.falling h (λ v. let small = fits_small vs m v f in omega arith) (λ v l. fits_known vs m v f l) e
+
+pub word_small : (vs : List ℕ) (m : List (ℕ × ℕ)) (w : ℕ) → IsWordIn vs m w → w < 2 ^ 127
+word_small vs m w g = half w (2 ^ (16 * length vs)) (subst (λ x. x + x < 2 ^ (16 * length vs)) (sym g.value) (word_half vs m (λ v. fits_small vs m v g.fits))) (ap (λ n. 2 ^ (16 * n)) g.layout.eight)
+  where
+    half : (x p : ℕ) → x + x < p → p ≡ 2 ^ 128 → x < 2 ^ 127
+    half x p l e = omega arith

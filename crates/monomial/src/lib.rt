@@ -137,6 +137,15 @@ impl Monomial {
         }
     }
 
+    /// Stores this monomial as a word in a layout, where it fits.
+    pub fn lay(&mut self, layout: &Layout)
+        ensures { self.new ≡ self.old }
+    {
+        if let Some(word) = self.word_in(layout) {
+            self.powers.lay(Laid::new(layout.copy(), word));
+        }
+    }
+
     /// The powers `(variable, exponent)`, to be read from the greatest variable down.
     #[inline(always)]
     pub fn powers(&self) -> PowersLeft<'_>

@@ -74,6 +74,13 @@ impl Powers {
         }
     }
 
+    /// Puts the powers of a word in the place of these.
+    pub fn lay(&mut self, laid: Laid)
+        ensures { self.new ≡ laid }
+    {
+        self.stored = Stored::Word(laid);
+    }
+
     /// The layout of the word that is stored, if one is.
     pub fn layout(&self) -> Option<Layout> {
         match &self.stored {

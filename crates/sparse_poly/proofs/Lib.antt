@@ -16,8 +16,7 @@ pub mod Strips
 pub mod Powers
 pub mod Units
 pub mod InOrder
-pub mod Words
-pub mod Layouts
+pub mod Places
 pub mod Packings
 pub mod PackedTerms
 pub mod PackedSqueezes

@@ -7,7 +7,7 @@ use Rattle.sparse_poly.specs.declared.packed_entry.PackedShare.{PackedShare}
 use Rattle.sparse_poly.specs.Contributions.{signed}
 use Rattle.sparse_poly.specs.Standing.{Agree}
 use Rattle.sparse_poly.specs.Packed.{term_words, share_words, raised, IsPackedRow, IsRowAdded, IsPackedProduct, IsPackedMerge}
-use Rattle.sparse_poly.proofs.Layouts.{drop_end}
+use Rattle.sparse_poly.proofs.Places.{drop_end}
 use Rattle.sparse_poly.proofs.Packings.{drop_at, merge_first, merge_second, merge_both, merge_rest, row_more, product_one, product_halves}
 
 -- s is the share of the contribution of two terms

@@ -6,13 +6,13 @@ use Rattle.std.specs.declared.option.Option.{Option}
 use Rattle.std.specs.declared.option.Option.TheVariants.{None, Some}
 use Rattle.sparse_poly.specs.declared.packed_entry.PackedShare.{PackedShare}
 use Rattle.sparse_poly.specs.Standing.{Agree, AllBelow, IsDescending}
-use Rattle.sparse_poly.specs.Packing.{IsLayout, monomial_of}
+use Rattle.monomial.specs.Layouts.{IsLayout, monomial_of}
 use Rattle.sparse_poly.specs.Packed.{share_read, shares_read, share_words, AllUnder, IsPackedTaken, IsPackedNext}
 use Rattle.sparse_poly.proofs.Descending.{below_more}
-use Rattle.sparse_poly.proofs.Layouts.{drop_end}
+use Rattle.sparse_poly.proofs.Places.{drop_end}
 use Rattle.sparse_poly.proofs.Merges.{IsNext-first, IsNext-second, IsNext-both}
 use Rattle.sparse_poly.proofs.Packings.{drop_at}
-use Rattle.sparse_poly.proofs.Words.{lower_monomial}
+use Rattle.monomial.proofs.Words.{lower_monomial}
 
 word_under : (n : ℕ) (xs : List PackedShare) (k : ℕ) (x : PackedShare) → k < length xs → x ≡ slice_index_or xs k x → AllUnder n (share_words xs) → x.word < n
 word_under n [] k x h e a = absurd (omega arith)

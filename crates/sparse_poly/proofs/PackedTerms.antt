@@ -19,34 +19,14 @@ use Rattle.sparse_poly.specs.declared.packed_entry.PackedShare.{PackedShare}
 use Rattle.sparse_poly.specs.Polynomials.{row, products, negated}
 use Rattle.sparse_poly.specs.Contributions.{signed_products, higher, degree_of, IsFalling}
 use Rattle.sparse_poly.specs.Standing.{Stands, AllBelow, IsDescending}
-use Rattle.sparse_poly.specs.Packing.{AreFalling, IsLayout, word_of, monomial_of, FitsLayout}
+use Rattle.sparse_poly.specs.Packing.{AllFit}
+use Rattle.monomial.specs.Layouts.{AreFalling, IsLayout, word_of, monomial_of, FitsLayout}
 use Rattle.sparse_poly.specs.Packed.{term_read, terms_read, shares_read, term_words, share_words, AreProducts, AllPackedIn, IsPackedIn, AllUnder, AllHalves, AreOrdered, IsPackedProduct}
 use Rattle.sparse_poly.proofs.Adding.{degree_of-append}
 use Rattle.sparse_poly.proofs.Descending.{all_map, all_more}
-use Rattle.sparse_poly.proofs.Words.{word_of-times, word_half, monomial_of-word, IsPowers-monomial_of, IsMonomial-monomial_of, lower_monomial}
-use Rattle.sparse_poly.proofs.Layouts.{take_more, take_all}
+use Rattle.monomial.proofs.Words.{word_of-times, word_half, monomial_of-word, IsPowers-monomial_of, IsMonomial-monomial_of, lower_monomial, fits_small, fits_known, fitting_monomial}
+use Rattle.sparse_poly.proofs.Places.{take_more, take_all}
 use Rattle.sparse_poly.proofs.Packings.{terms_read-append, halves_sums}
-
--- exponents of what fits a layout
-pub fits_small : (vs : List ℕ) (m : List (ℕ × ℕ)) (v : ℕ) → FitsLayout vs m → exponent m v ≤ 32767
-fits_small vs [] v h = omega arith
-fits_small vs (p ∷ ps) v h = each (fits_small vs ps v h.1) (eqb_tells p.0 v)
-  where
-    each : exponent ps v ≤ 32767 → ((p.0 == v ≡ true) × (p.0 ≡ v)) ⊎ ((p.0 == v ≡ false) × (p.0 ≢ v)) → exponent (p ∷ ps) v ≤ 32767
-    each rest (inl (t, e)) = omega (arith, exponent_here p ps v e, h.0.1)
-    each rest (inr (t, n)) = omega (arith, exponent_there p ps v n)
-
-fits_known : (vs : List ℕ) (m : List (ℕ × ℕ)) (v : ℕ) → FitsLayout vs m → 0 < exponent m v → Contains vs v
-fits_known vs [] v h l = absurd (omega arith)
-fits_known vs (p ∷ ps) v h l = each (fits_known vs ps v h.1) (eqb_tells p.0 v)
-  where
-    each : (0 < exponent ps v → Contains vs v) → ((p.0 == v ≡ true) × (p.0 ≡ v)) ⊎ ((p.0 == v ≡ false) × (p.0 ≢ v)) → Contains vs v
-    each rest (inl (t, e)) = subst (Contains vs) e h.0.0
-    each rest (inr (t, n)) = rest (subst (λ k. 0 < k) (exponent_there p ps v n) l)
-
-fitting_monomial : (vs : List ℕ) (m : List (ℕ × ℕ)) (w : ℕ) → IsLayout vs → IsPowers m → FitsLayout vs m → w ≡ word_of vs m → monomial_of vs w ≡ m
-fitting_monomial vs m w y h f e =
-    monomial_of-word vs m w y.falling h (λ v. let small = fits_small vs m v f in omega arith) (λ v l. fits_known vs m v f l) e
 
 -- the first k terms, packed
 pub record PackedSoFar (vs : List ℕ) (ts : List Term) (k : ℕ) (out : List PackedTerm) : Type 0 where
@@ -189,3 +169,10 @@ IsDescending-read vs (s ∷ ss) y f l = (below ss f.0, IsDescending-read vs ss y
     below : (ss : List PackedShare) → AllByRecursion (λ w. w < s.word) (share_words ss) → AllBelow (monomial_of vs s.word) (shares_read (monomial_of vs) ss)
     below [] h = tt
     below (t ∷ ss) h = (lower_monomial vs t.word s.word y.falling l.0 h.0, below ss h.1)
+
+-- the first k terms fit a layout
+pub AllFit-more : (vs : List ℕ) (ts : List Term) (k : ℕ) (t : Term) → k < length ts → t ≡ slice_index_or ts k t → FitsLayout vs t.monomial → AllFit vs (take k ts) → AllFit vs (take (k + 1) ts)
+AllFit-more vs ts k t h e f a = subst (AllFit vs) (sym (take_more ts k t h e)) (all_more (λ (u : Term). FitsLayout vs u.monomial) (take k ts) t a f)
+
+pub AllFit-end : (vs : List ℕ) (ts : List Term) (k : ℕ) → length ts ≤ k → AllFit vs (take k ts) → AllFit vs ts
+AllFit-end vs ts k h a = subst (AllFit vs) (take_all ts k h) a

@@ -13,13 +13,13 @@ use Rattle.sparse_poly.specs.declared.packed_entry.PackedTerm.{PackedTerm}
 use Rattle.sparse_poly.specs.declared.packed_entry.PackedShare.{PackedShare}
 use Rattle.sparse_poly.specs.Contributions.{signed, signed_row, signed_products}
 use Rattle.sparse_poly.specs.Standing.{ssum, sweight, Agree, Stands}
-use Rattle.sparse_poly.specs.Packing.{AreFalling}
+use Rattle.monomial.specs.Layouts.{AreFalling}
 use Rattle.sparse_poly.specs.Packed.{Reading, term_read, terms_read, share_read, shares_read, term_words, share_words, AreProducts, AllUnder, AllHalves, raised, IsPackedRow, IsRowAdded, IsPackedProduct, IsPackedMerge}
 use Rattle.sparse_poly.proofs.Evaluation.{zero_plus}
 use Rattle.sparse_poly.proofs.Adding.{signed_products-append, signed_products-one}
 use Rattle.sparse_poly.proofs.Standings.{agree_plus, agree_through, same_agrees, Stands-both, Stands-append, no_products}
 use Rattle.sparse_poly.proofs.Descending.{all_front, all_back, all_map}
-use Rattle.sparse_poly.proofs.Layouts.{drop_one, drop_end}
+use Rattle.sparse_poly.proofs.Places.{drop_one, drop_end}
 
 pub drop_at : {X : Type 0} → (xs : List X) (k : ℕ) (x : X) → k < length xs → x ≡ slice_index_or xs k x → drop k xs ≡ x ∷ drop (k + 1) xs
 drop_at xs k x h e = drop_one xs k x h ∙ ap (λ y. y ∷ drop (k + 1) xs) (sym e)

@@ -10,7 +10,7 @@ use Rattle.sparse_poly.specs.declared.packed_entry.PackedTerm.{PackedTerm}
 use Rattle.sparse_poly.specs.declared.packed_entry.PackedShare.{PackedShare}
 use Rattle.sparse_poly.specs.Contributions.{signed_row, signed_products}
 use Rattle.sparse_poly.specs.Standing.{Stands, StandsForBoth, IsTaken}
-use Rattle.sparse_poly.specs.Packing.{AreFalling, IsLayout, word_of, monomial_of, FitsLayout}
+use Rattle.monomial.specs.Layouts.{AreFalling, IsLayout, word_of, monomial_of, FitsLayout}
 
 -- a way to read words
 abbrev pub Reading : Type 0

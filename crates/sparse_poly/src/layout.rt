@@ -1,113 +1,169 @@
-//! Monomials as words, where few variables occur and exponents are small.
-ghost use Rattle.std.specs.Prelude.{◌≡◌, ℕ, ◌<◌, ◌≤◌, ◌^◌, length, take, slice_index, IsTrue, IfOk, IfSome};
-ghost use Rattle.std.specs.List.{AllByRecursion, Contains};
-ghost use Rattle.monomial.specs.Monomials.{exponent};
-ghost use Rattle.sparse_poly.specs.Packing.{word_of, exponent_at, monomial_of, IsLayout, FitsLayout, AllFit, IsGrown};
+//! The layout in which the monomials of a product are words.
+ghost use Rattle.std.specs.Prelude.{◌≡◌, ◌≤◌, length, IsTrue, IfSome};
+ghost use Rattle.monomial.specs.Layouts.{IsLayout};
+ghost use Rattle.sparse_poly.specs.Packing.{AllFit};
 
 use crate::Term;
 use arrayvec::ArrayVec;
-use monomial::Monomial;
-use std::alloc::{AllocError, Global};
+use monomial::{Layout, Monomial};
+use std::alloc::Global;
 
-/// The variables that occur in some polynomials, at most eight, from the greatest down.
-#[derive(Drop)]
-pub struct Layout {
-    pub variables: ArrayVec<u32, 8>,
+/// The layout for `l*q - a*p`, and `None` where words don't serve: where more than eight variables occur or one from 65,536 on, an exponent is
+/// above 32,767, or the terms are stored in several ways and there are less than three contributions for each.
+pub fn layout_for(
+    alloc: Global,
+    l: &[Term],
+    q: &[Term],
+    a: &[Term],
+    p: &[Term],
+) -> Option<Layout>
+    ensures layout { IfSome result IsLayout }
+    ensures l { IfSome result (λ y. AllFit y l.now) }
+    ensures q { IfSome result (λ y. AllFit y q.now) }
+    ensures a { IfSome result (λ y. AllFit y a.now) }
+    ensures p { IfSome result (λ y. AllFit y p.now) }
+{
+    if let Some(layout) = stored_layout(q) {
+        if all_fit(&layout, l) && all_fit(&layout, q) && all_fit(&layout, a) && all_fit(&layout, p)
+        {
+            return Some(layout);
+        }
+    }
+    let contributions = (l.len().saturating_mul(q.len())).saturating_add(
+        a.len().saturating_mul(p.len()),
+    );
+    let terms = (l.len().saturating_add(q.len())).saturating_add(a.len().saturating_add(p.len()));
+    if contributions / 3 < terms {
+        return None;
+    }
+    let layout = common_layout(alloc, l, q, a, p)?;
+    if all_fit(&layout, l) && all_fit(&layout, q) && all_fit(&layout, a) && all_fit(&layout, p) {
+        Some(layout)
+    } else {
+        None
+    }
 }
 
-impl Layout {
-    /// The variables of these terms, and `None` where there are more than eight, or an exponent is above 32,767.
-    pub fn of(l: &[Term], q: &[Term], a: &[Term], p: &[Term]) -> Option<Layout>
-        ensures layout { IfSome result (λ y. IsLayout y.variables.items) }
-        ensures l { IfSome result (λ y. AllFit y.variables.items l.now) }
-        ensures q { IfSome result (λ y. AllFit y.variables.items q.now) }
-        ensures a { IfSome result (λ y. AllFit y.variables.items a.now) }
-        ensures p { IfSome result (λ y. AllFit y.variables.items p.now) }
-    {
-        let mut layout = Layout {
-            variables: ArrayVec::new(),
+/// Stores the monomials of terms as words of one layout, where they fit one.
+pub fn lay(alloc: Global, terms: &mut [Term])
+    ensures { terms.new ≡ terms.old }
+{
+    let Some(layout) = common_layout(alloc, terms, &[], &[], &[]) else {
+        return;
+    };
+    for term in terms {
+        term.monomial.lay(&layout);
+    }
+}
+
+// The layout of the first term, if it is stored as a word.
+fn stored_layout(terms: &[Term]) -> Option<Layout> {
+    match terms.first() {
+        Some(term) => term.monomial.layout(),
+        None => None,
+    }
+}
+
+// Whether all monomials fit a layout.
+fn all_fit(layout: &Layout, terms: &[Term]) -> bool
+    ensures layout { IsTrue result → IsLayout layout.now }
+    ensures fit { IsTrue result → AllFit layout.now terms.now }
+{
+    let _variables = layout.word();
+    for term in terms {
+        let Some(_) = term.monomial.word_in(layout) else {
+            return false;
         };
-        if layout.note_terms(l)
-            && layout.note_terms(q)
-            && layout.note_terms(a)
-            && layout.note_terms(p)
-        {
-            Some(layout)
-        } else {
-            None
-        }
     }
+    true
+}
 
-    /// The word of a monomial: each exponent has 16 bits, and that of the greatest variable stands highest.
-    pub fn word(&self, monomial: &Monomial) -> u128
-        requires { (v : ℕ) → exponent monomial.now v ≤ 32767 }
-        ensures value { result ≡ word_of self.now.variables.items monomial.now }
-        ensures small { result < 2 ^ 127 }
+// A layout of all variables that occur in these terms, if there is one.
+fn common_layout(
+    alloc: Global,
+    l: &[Term],
+    q: &[Term],
+    a: &[Term],
+    p: &[Term],
+) -> Option<Layout> {
+    let mut occurring = Occurring {
+        variables: ArrayVec::new(),
+        last: None,
+        bits: 0,
+    };
+    if occurring.note_terms(alloc, l)
+        && occurring.note_terms(alloc, q)
+        && occurring.note_terms(alloc, a)
+        && occurring.note_terms(alloc, p)
     {
-        let mut word = 0u128;
-        for var in self.variables.as_slice() {
-            word = word * 65536 + u128::from(monomial.exponent(*var));
-        }
-        word
+        occurring.layout(alloc)
+    } else {
+        None
     }
+}
 
-    /// The monomial of a word. It fails only where no memory is left.
-    pub fn monomial(&self, alloc: Global, word: u128) -> Result<Monomial, AllocError>
-        requires { IsLayout self.now.variables.items }
-        ensures { IfOk result (λ m. m ≡ monomial_of self.now.variables.items word) }
-    {
-        let variables = self.variables.as_slice();
-        let mut powers: ArrayVec<(u32, u16), 8> = ArrayVec::new();
-        for i in 0..variables.len() {
-            let exp = exponent_at(word, variables.len() - 1 - i);
-            if exp > 0 {
-                powers.push((variables[i], exp));
-            }
-        }
-        Monomial::from_powers(alloc, powers.as_slice())
-    }
+// The variables that occur in monomials.
+#[derive(Drop)]
+struct Occurring {
+    // At most eight, from the greatest down.
+    variables: ArrayVec<u32, 8>,
+    // The layout of the last monomial that was stored as a word, and all bits of the words in it: their variables are not noted yet.
+    last: Option<Layout>,
+    bits: u128,
+}
 
-    // Adds the variables of terms, and says whether all fit.
-    fn note_terms(&mut self, terms: &[Term]) -> bool
-        requires { IsLayout self.old.variables.items }
-        ensures layout { IsLayout self.new.variables.items }
-        ensures grown { IsGrown self.old.variables.items self.new.variables.items }
-        ensures fits { IsTrue result → AllFit self.new.variables.items terms.now }
-    {
+impl Occurring {
+    // Notes the variables of terms, and says whether there is room for all.
+    fn note_terms(&mut self, alloc: Global, terms: &[Term]) -> bool {
         for term in terms {
-            if !self.note_monomial(&term.monomial) {
+            if !self.note_monomial(alloc, &term.monomial) {
                 return false;
             }
         }
         true
     }
 
-    // Adds the variables of a monomial, and says whether it fits.
-    fn note_monomial(&mut self, monomial: &Monomial) -> bool
-        requires { IsLayout self.old.variables.items }
-        ensures layout { IsLayout self.new.variables.items }
-        ensures grown { IsGrown self.old.variables.items self.new.variables.items }
-        ensures fits { IsTrue result → FitsLayout self.new.variables.items monomial.now }
-    {
-        for place in 0..monomial.len() {
-            let power = monomial.power_at(place);
-            if power.1 > 32767 {
-                return false;
+    // Notes the variables of a monomial, and says whether there is room for all.
+    fn note_monomial(&mut self, alloc: Global, monomial: &Monomial) -> bool {
+        if let Some(layout) = &self.last {
+            if let Some(word) = monomial.word_in(layout) {
+                self.bits |= word;
+                return true;
             }
-            if !self.note_variable(power.0) {
+        }
+        let Some(layout) = monomial.layout() else {
+            return self.note_powers(monomial);
+        };
+        let Some(word) = monomial.word_in(&layout) else {
+            return false;
+        };
+        let noted = self.note_last(alloc);
+        self.last = Some(layout);
+        self.bits = word;
+        noted
+    }
+
+    // Notes the variables of the words in the last layout, and says whether there is room for all.
+    fn note_last(&mut self, alloc: Global) -> bool {
+        let words = match &self.last {
+            Some(layout) => Monomial::of_word(alloc, layout, self.bits),
+            None => return true,
+        };
+        self.note_powers(&words)
+    }
+
+    // Notes the variables of powers, and says whether there is room for all.
+    fn note_powers(&mut self, monomial: &Monomial) -> bool {
+        for power in monomial.powers() {
+            if power.1 > 32767 || !self.note_variable(power.0) {
                 return false;
             }
         }
         true
     }
 
-    // Adds a variable, and says whether there is room for it.
-    fn note_variable(&mut self, var: u32) -> bool
-        requires { IsLayout self.old.variables.items }
-        ensures layout { IsLayout self.new.variables.items }
-        ensures grown { IsGrown self.old.variables.items self.new.variables.items }
-        ensures has { IsTrue result → Contains self.new.variables.items var }
-    {
+    // Notes a variable, and says whether there is room for it.
+    fn note_variable(&mut self, var: u32) -> bool {
         let place = self.place_of(var);
         if place < self.variables.len() && self.variables.as_slice()[place] == var {
             return true;
@@ -121,9 +177,7 @@ impl Layout {
 
     // How many variables are greater.
     fn place_of(&self, var: u32) -> usize
-        ensures within { result ≤ length self.now.variables.items }
-        ensures front { AllByRecursion (λ v. var < v) (take result self.now.variables.items) }
-        ensures next { result < length self.now.variables.items → slice_index self.now.variables.items result ≤ var }
+        ensures { result ≤ length self.now.variables.items }
     {
         let variables = self.variables.as_slice();
         for place in 0..variables.len() {
@@ -133,12 +187,20 @@ impl Layout {
         }
         variables.len()
     }
-}
 
-// The exponent that a word has at a place, where places count from the least variable up.
-fn exponent_at(word: u128, place: usize) -> u16
-    requires { place < 8 }
-    ensures { result ≡ exponent_at word place }
-{
-    ((word >> (16 * place)) % 65536) as u16
+    // The layout of the variables, filled up with the least others.
+    fn layout(mut self, alloc: Global) -> Option<Layout> {
+        if self.variables.is_empty() {
+            if let Some(layout) = &self.last {
+                return Some(layout.copy());
+            }
+        }
+        if !self.note_last(alloc) {
+            return None;
+        }
+        for var in 0..8 {
+            self.note_variable(var);
+        }
+        Layout::new(self.variables.as_slice())
+    }
 }

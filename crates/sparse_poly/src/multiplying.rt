@@ -8,7 +8,8 @@ ghost use Rattle.sparse_poly.specs.Standing.{Agree, Stands, AllMonomials, IsDesc
 
 use crate::entry::Share;
 use crate::merging::{merge, sorted};
-use crate::packing::{layout_for, packed_combination, packed_multiplication};
+use crate::layout::layout_for;
+use crate::packing::{packed_combination, packed_multiplication};
 use crate::squeezing::squeeze;
 use crate::{PolyFault, Term};
 use monomial::{MonoFault, Monomial};
@@ -28,7 +29,7 @@ pub fn combined(
     requires p_poly { IsPoly p.now }
     ensures { MatchResult result (λ v. IsResult (contributions l.now q.now a.now p.now) v.items) (IsFault (contributions l.now q.now a.now p.now)) }
 {
-    if let Some(layout) = layout_for(l, q, a, p) {
+    if let Some(layout) = layout_for(alloc, l, q, a, p) {
         return packed_combination(alloc, &layout, l, q, a, p);
     }
     let mut high = None;
@@ -49,7 +50,7 @@ pub fn multiplied(alloc: Global, first: &[Term], second: &[Term]) -> Result<Vec<
     requires second_poly { IsPoly second.now }
     ensures { MatchResult result (λ v. IsResult (products first.now second.now) v.items) (IsFault (products first.now second.now)) }
 {
-    if let Some(layout) = layout_for(first, second, &[], &[]) {
+    if let Some(layout) = layout_for(alloc, first, second, &[], &[]) {
         return packed_multiplication(alloc, &layout, first, second);
     }
     let half = first.len() / 2;

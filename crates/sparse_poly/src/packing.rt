@@ -5,36 +5,18 @@ ghost use Rattle.std.specs.declared.option.Option.TheVariants.{None};
 ghost use Rattle.sparse_poly.specs.Contributions.{signed, degree_of, signed_products, contributions, IsPoly, IsResult, IsFault};
 ghost use Rattle.sparse_poly.specs.Polynomials.{products};
 ghost use Rattle.sparse_poly.specs.Standing.{Agree, Stands, IsLightSum, IsHeavyFault};
-ghost use Rattle.sparse_poly.specs.Packing.{monomial_of, IsLayout, AllFit};
+ghost use Rattle.sparse_poly.specs.Packing.{AllFit};
+ghost use Rattle.monomial.specs.Layouts.{monomial_of, IsLayout};
 ghost use Rattle.sparse_poly.specs.Packed.{terms_read, shares_read, AllPackedIn, AreOrdered, IsPackedNext, IsRowAdded, IsPackedProduct, IsPackedMerge};
 
-use crate::layout::Layout;
 use crate::multiplying::kept_product;
 use crate::packed_entry::{PackedShare, PackedTerm};
 use crate::squeezing::trimmed;
 use crate::weighing::joined_sum;
 use crate::{PolyFault, Term};
+use monomial::{Layout, Monomial};
 use std::alloc::{AllocError, Global};
 use std::cmp::Ordering;
-
-/// The layout for `l*q - a*p`, and `None` where words don't serve: where there are less than three contributions for each term of the factors,
-/// more than eight variables, or an exponent above 32,767.
-pub fn layout_for(l: &[Term], q: &[Term], a: &[Term], p: &[Term]) -> Option<Layout>
-    ensures layout { IfSome result (λ y. IsLayout y.variables.items) }
-    ensures l { IfSome result (λ y. AllFit y.variables.items l.now) }
-    ensures q { IfSome result (λ y. AllFit y.variables.items q.now) }
-    ensures a { IfSome result (λ y. AllFit y.variables.items a.now) }
-    ensures p { IfSome result (λ y. AllFit y.variables.items p.now) }
-{
-    let contributions = (l.len().saturating_mul(q.len())).saturating_add(
-        a.len().saturating_mul(p.len()),
-    );
-    let terms = (l.len().saturating_add(q.len())).saturating_add(a.len().saturating_add(p.len()));
-    if contributions / 3 < terms {
-        return None;
-    }
-    Layout::of(l, q, a, p)
-}
 
 /// The terms of `l*q - a*p`, by words.
 pub fn packed_combination(
@@ -45,15 +27,15 @@ pub fn packed_combination(
     a: &[Term],
     p: &[Term],
 ) -> Result<Vec<Term>, PolyFault>
-    requires layout { IsLayout layout.now.variables.items }
+    requires layout { IsLayout layout.now }
     requires l_poly { IsPoly l.now }
     requires q_poly { IsPoly q.now }
     requires a_poly { IsPoly a.now }
     requires p_poly { IsPoly p.now }
-    requires l_fits { AllFit layout.now.variables.items l.now }
-    requires q_fits { AllFit layout.now.variables.items q.now }
-    requires a_fits { AllFit layout.now.variables.items a.now }
-    requires p_fits { AllFit layout.now.variables.items p.now }
+    requires l_fits { AllFit layout.now l.now }
+    requires q_fits { AllFit layout.now q.now }
+    requires a_fits { AllFit layout.now a.now }
+    requires p_fits { AllFit layout.now p.now }
     ensures { MatchResult result (λ v. IsResult (contributions l.now q.now a.now p.now) v.items) (IsFault (contributions l.now q.now a.now p.now)) }
 {
     let first = packed_product(alloc, layout, l, q, false)?;
@@ -68,11 +50,11 @@ pub fn packed_multiplication(
     l: &[Term],
     q: &[Term],
 ) -> Result<Vec<Term>, PolyFault>
-    requires layout { IsLayout layout.now.variables.items }
+    requires layout { IsLayout layout.now }
     requires l_poly { IsPoly l.now }
     requires q_poly { IsPoly q.now }
-    requires l_fits { AllFit layout.now.variables.items l.now }
-    requires q_fits { AllFit layout.now.variables.items q.now }
+    requires l_fits { AllFit layout.now l.now }
+    requires q_fits { AllFit layout.now q.now }
     ensures { MatchResult result (λ v. IsResult (products l.now q.now) v.items) (IsFault (products l.now q.now)) }
 {
     let ts = packed(alloc, layout, l)?;
@@ -91,14 +73,14 @@ fn packed_product(
     us: &[Term],
     minus: bool,
 ) -> Result<Vec<PackedShare>, AllocError>
-    requires layout { IsLayout layout.now.variables.items }
+    requires layout { IsLayout layout.now }
     requires ts_poly { IsPoly ts.now }
     requires us_poly { IsPoly us.now }
-    requires ts_fits { AllFit layout.now.variables.items ts.now }
-    requires us_fits { AllFit layout.now.variables.items us.now }
-    ensures sums { IfOk result (λ v. Stands (shares_read (monomial_of layout.now.variables.items) v.items) (signed_products minus ts.now us.now)) }
+    requires ts_fits { AllFit layout.now ts.now }
+    requires us_fits { AllFit layout.now us.now }
+    ensures sums { IfOk result (λ v. Stands (shares_read (monomial_of layout.now) v.items) (signed_products minus ts.now us.now)) }
     ensures degree { IfOk result (λ _. degree_of (signed_products minus ts.now us.now) ≡ None) }
-    ensures order { IfOk result (λ v. AreOrdered layout.now.variables.items v.items) }
+    ensures order { IfOk result (λ v. AreOrdered layout.now v.items) }
 {
     let ts = packed(alloc, layout, ts)?;
     let us = packed(alloc, layout, us)?;
@@ -107,16 +89,19 @@ fn packed_product(
 
 // Terms with their words.
 fn packed(alloc: Global, layout: &Layout, terms: &[Term]) -> Result<Vec<PackedTerm>, AllocError>
-    requires layout { IsLayout layout.now.variables.items }
+    requires layout { IsLayout layout.now }
     requires poly { IsPoly terms.now }
-    requires fits { AllFit layout.now.variables.items terms.now }
-    ensures terms { IfOk result (λ v. terms_read (monomial_of layout.now.variables.items) v.items ≡ terms.now) }
-    ensures words { IfOk result (λ v. AllPackedIn layout.now.variables.items v.items) }
+    requires fits { AllFit layout.now terms.now }
+    ensures terms { IfOk result (λ v. terms_read (monomial_of layout.now) v.items ≡ terms.now) }
+    ensures words { IfOk result (λ v. AllPackedIn layout.now v.items) }
 {
     let mut packed = Vec::with_capacity(alloc, terms.len())?;
     for term in terms {
+        let Some(word) = term.monomial.word_in(layout) else {
+            unreachable!()
+        };
         packed.push(PackedTerm {
-            word: layout.word(&term.monomial),
+            word,
             coeff: term.coeff,
         })?;
     }
@@ -320,25 +305,25 @@ fn squeeze(
     first: &[PackedShare],
     second: &[PackedShare],
 ) -> Result<Vec<Term>, PolyFault>
-    requires layout { IsLayout layout.now.variables.items }
-    requires first { AreOrdered layout.now.variables.items first.now }
-    requires second { AreOrdered layout.now.variables.items second.now }
-    ensures { MatchResult result (λ v. IsLightSum (shares_read (monomial_of layout.now.variables.items) first.now ++ shares_read (monomial_of layout.now.variables.items) second.now) v.items) (IsHeavyFault (shares_read (monomial_of layout.now.variables.items) first.now ++ shares_read (monomial_of layout.now.variables.items) second.now)) }
+    requires layout { IsLayout layout.now }
+    requires first { AreOrdered layout.now first.now }
+    requires second { AreOrdered layout.now second.now }
+    ensures { MatchResult result (λ v. IsLightSum (shares_read (monomial_of layout.now) first.now ++ shares_read (monomial_of layout.now) second.now) v.items) (IsHeavyFault (shares_read (monomial_of layout.now) first.now ++ shares_read (monomial_of layout.now) second.now)) }
 {
     let mut terms = Vec::with_capacity(alloc, first.len().saturating_add(second.len()))?;
     let mut i = 0;
     let mut j = 0;
     'shares: while let Some(share) = next_share(first, second, &mut i, &mut j) {
         if share.weight > i128::MAX as u128 {
-            let monomial = layout.monomial(alloc, share.word)?;
-            return Err(PolyFault::Heavy { monomial });
+            return Err(PolyFault::Heavy {
+                monomial: Monomial::of_word(alloc, layout, share.word),
+            });
         }
         if share.sum == 0 {
             continue;
         }
-        let monomial = layout.monomial(alloc, share.word)?;
         terms.push_reserved(Term {
-            monomial,
+            monomial: Monomial::of_word(alloc, layout, share.word),
             coeff: share.sum,
         });
     }

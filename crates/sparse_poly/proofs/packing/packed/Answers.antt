@@ -1,19 +1,17 @@
-use Rattle.std.proofs.Common.{rules, ◌≡◌, to_z, of_z}
+use Rattle.std.proofs.Common.{rules, arith, ◌≡◌, ◌<◌, ◌^◌, to_z, of_z}
 use Rattle.std.specs.Int.{w128}
 use Rattle.monomial.specs.Monomials.{IsMonomial}
+use Rattle.monomial.proofs.Words.{word_small}
 use Rattle.sparse_poly.specs.declared.Term.{Term}
-use Rattle.sparse_poly.specs.Packing.{FitsLayout}
 use Rattle.sparse_poly.proofs.Rows.{all_at}
-use Rattle.sparse_poly.proofs.PackedTerms.{fits_small, PackedSoFar-more}
+use Rattle.sparse_poly.proofs.PackedTerms.{PackedSoFar-more}
 use Rattle.sparse_poly.proofs.packing.packed.Goals as goal
 
-pub word-requires : goal.word-requires
-word-requires c v =
-    fits_small c.args.layout.now.variables.items c.term-item.result.monomial v (all_at (λ (t : Term). FitsLayout c.args.layout.now.variables.items t.monomial) c.args.terms.now c.loop-term.term-index c.term-item.result c.loop-term-test.true c.term-item.is c.requires.fits)
+pub invariant_of-push : goal.invariant_of-push
+invariant_of-push c = record { small = word_small _ _ c.in-Some.word c.in-Some.ensures }
 
 pub loop-term-preserved : goal.loop-term-preserved
 loop-term-preserved c =
-    let fits = all_at (λ (t : Term). FitsLayout c.args.layout.now.variables.items t.monomial) c.args.terms.now c.loop-term.term-index c.term-item.result c.loop-term-test.true c.term-item.is c.requires.fits in
     let monomial = all_at (λ (t : Term). IsMonomial t.monomial) c.args.terms.now c.loop-term.term-index c.term-item.result c.loop-term-test.true c.term-item.is c.requires.poly.monomials in
     let same : to_z w128 (of_z w128 c.term-item.result.coeff) ≡ c.term-item.result.coeff = search rules in
-    rw c.in_ok-push.ensures.items (PackedSoFar-more c.args.layout.now.variables.items c.args.terms.now c.loop-term.term-index c.term-item.result _ c.loop-term.packed.items c.requires.layout c.loop-term-test.true c.term-item.is monomial fits c.word.ensures.value same c.loop-term.invariant)
+    rw c.in_ok-push.ensures.items (PackedSoFar-more c.args.layout.now c.args.terms.now c.loop-term.term-index c.term-item.result _ c.loop-term.packed.items c.requires.layout c.loop-term-test.true c.term-item.is monomial c.in-Some.ensures.fits c.in-Some.ensures.value same c.loop-term.invariant)

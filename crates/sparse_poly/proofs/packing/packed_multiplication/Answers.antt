@@ -4,7 +4,7 @@ use Rattle.std.specs.declared.option.Option.TheVariants.{None}
 use Rattle.sparse_poly.specs.Polynomials.{products}
 use Rattle.sparse_poly.specs.Contributions.{degree_of}
 use Rattle.sparse_poly.specs.Standing.{Stands}
-use Rattle.sparse_poly.specs.Packing.{monomial_of}
+use Rattle.monomial.specs.Layouts.{monomial_of}
 use Rattle.sparse_poly.specs.Packed.{shares_read, AllPackedIn, IsPackedIn}
 use Rattle.sparse_poly.specs.declared.packed_entry.PackedTerm.{PackedTerm}
 use Rattle.sparse_poly.proofs.Descending.{all_front, all_back}
@@ -15,7 +15,7 @@ use Rattle.sparse_poly.proofs.packing.packed_multiplication.Goals as goal
 
 pub squeeze-requires-clause-first : goal.squeeze-requires-clause-first
 squeeze-requires-clause-first c =
-    let vs = c.args.layout.now.variables.items in
+    let vs = c.args.layout.now in
     let ts = c.in_ok-ts.ts.items in
     let words : AllPackedIn vs (take (c.len-half.result / 2) ts) = all_front (λ (t : PackedTerm). IsPackedIn vs t) _ _ (subst (AllPackedIn vs) (term_halves ts (c.len-half.result / 2)) c.in_ok-ts.ensures.words) in
     let made = rw (c.deref.ensures.value, c.deref-2.ensures.value) at c.in_ok-first.ensures in
@@ -23,7 +23,7 @@ squeeze-requires-clause-first c =
 
 pub squeeze-requires-clause-second : goal.squeeze-requires-clause-second
 squeeze-requires-clause-second c =
-    let vs = c.args.layout.now.variables.items in
+    let vs = c.args.layout.now in
     let ts = c.in_ok-ts.ts.items in
     let words : AllPackedIn vs (take (length ts - c.len-half.result / 2) (drop (c.len-half.result / 2) ts)) = all_back (λ (t : PackedTerm). IsPackedIn vs t) _ _ (subst (AllPackedIn vs) (term_halves ts (c.len-half.result / 2)) c.in_ok-ts.ensures.words) in
     let made = rw (c.deref-3.ensures.value, c.deref-4.ensures.value) at c.in_ok-second.ensures in
@@ -31,7 +31,7 @@ squeeze-requires-clause-second c =
 
 pub returns : goal.returns
 returns c =
-    let vs = c.args.layout.now.variables.items in
+    let vs = c.args.layout.now in
     let ts = c.in_ok-ts.ts.items in
     let us = c.in_ok-us.us.items in
     let first = rw (c.deref.ensures.value, c.deref-2.ensures.value) at c.in_ok-first.ensures in
