@@ -1,4 +1,4 @@
-use Rattle.std.proofs.Common.{rules, ◌≡◌, to_z, of_z}
+use Rattle.std.proofs.Common.{rules, arith, ◌≡◌, to_z, of_z}
 use Rattle.std.specs.Int.{w128}
 use Rattle.monomial.specs.Monomials.{IsMonomial}
 use Rattle.sparse_poly.specs.declared.Term.{Term}
@@ -16,4 +16,7 @@ loop-term-preserved c =
     let fits = all_at (λ (t : Term). FitsLayout c.args.layout.now.variables.items t.monomial) c.args.terms.now c.loop-term.term-index c.term-item.result c.loop-term-test.true c.term-item.is c.requires.fits in
     let monomial = all_at (λ (t : Term). IsMonomial t.monomial) c.args.terms.now c.loop-term.term-index c.term-item.result c.loop-term-test.true c.term-item.is c.requires.poly.monomials in
     let same : to_z w128 (of_z w128 c.term-item.result.coeff) ≡ c.term-item.result.coeff = search rules in
-    rw c.in_ok-push.ensures.items (PackedSoFar-more c.args.layout.now.variables.items c.args.terms.now c.loop-term.term-index c.term-item.result _ c.loop-term.packed.items c.requires.layout c.loop-term-test.true c.term-item.is monomial fits c.word.ensures.value same c.loop-term.invariant)
+    record {
+      so_far = rw c.push_reserved.ensures.items (PackedSoFar-more c.args.layout.now.variables.items c.args.terms.now c.loop-term.term-index c.term-item.result _ c.loop-term.packed.items c.requires.layout c.loop-term-test.true c.term-item.is monomial fits c.word.ensures.value same c.loop-term.invariant.so_far);
+      room = omega (arith, c.push_reserved.ensures.len, c.push_reserved.ensures.capacity, c.loop-term.invariant.room, c.loop-term-test.true);
+    }
