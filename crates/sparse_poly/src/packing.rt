@@ -100,10 +100,10 @@ fn packed(alloc: Global, layout: &Layout, terms: &[Term]) -> Result<Vec<PackedTe
         let Some(word) = term.monomial.word_in(layout) else {
             unreachable!()
         };
-        packed.push(PackedTerm {
+        packed.push_reserved(PackedTerm {
             word,
             coeff: term.coeff,
-        })?;
+        });
     }
     Ok(packed)
 }
@@ -225,16 +225,16 @@ fn merge(
     'both: while i < first.len() && j < second.len() {
         match first[i].word.cmp(&second[j].word) {
             Ordering::Less => {
-                shares.push(second[j])?;
+                shares.push_reserved(second[j]);
                 j += 1;
             }
             Ordering::Equal => {
-                shares.push(joined(first[i], second[j]))?;
+                shares.push_reserved(joined(first[i], second[j]));
                 i += 1;
                 j += 1;
             }
             Ordering::Greater => {
-                shares.push(first[i])?;
+                shares.push_reserved(first[i]);
                 i += 1;
             }
         }

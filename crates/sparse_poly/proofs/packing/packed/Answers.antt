@@ -7,11 +7,14 @@ use Rattle.sparse_poly.proofs.Rows.{all_at}
 use Rattle.sparse_poly.proofs.PackedTerms.{PackedSoFar-more}
 use Rattle.sparse_poly.proofs.packing.packed.Goals as goal
 
-pub invariant_of-push : goal.invariant_of-push
-invariant_of-push c = record { small = word_small _ _ c.in-Some.word c.in-Some.ensures }
+pub invariant_of-push_reserved : goal.invariant_of-push_reserved
+invariant_of-push_reserved c = record { small = word_small _ _ c.in-Some.word c.in-Some.ensures }
 
 pub loop-term-preserved : goal.loop-term-preserved
 loop-term-preserved c =
     let monomial = all_at (λ (t : Term). IsMonomial t.monomial) c.args.terms.now c.loop-term.term-index c.term-item.result c.loop-term-test.true c.term-item.is c.requires.poly.monomials in
     let same : to_z w128 (of_z w128 c.term-item.result.coeff) ≡ c.term-item.result.coeff = search rules in
-    rw c.in_ok-push.ensures.items (PackedSoFar-more c.args.layout.now c.args.terms.now c.loop-term.term-index c.term-item.result _ c.loop-term.packed.items c.requires.layout c.loop-term-test.true c.term-item.is monomial c.in-Some.ensures.fits c.in-Some.ensures.value same c.loop-term.invariant)
+    record {
+      so_far = rw c.push_reserved.ensures.items (PackedSoFar-more c.args.layout.now c.args.terms.now c.loop-term.term-index c.term-item.result _ c.loop-term.packed.items c.requires.layout c.loop-term-test.true c.term-item.is monomial c.in-Some.ensures.fits c.in-Some.ensures.value same c.loop-term.invariant.so_far);
+      room = omega (arith, c.push_reserved.ensures.len, c.push_reserved.ensures.capacity, c.loop-term.invariant.room, c.loop-term-test.true);
+    }
