@@ -176,8 +176,7 @@ fn checksum(poly: &Poly) -> u64 {
 // A number that depends on each power.
 fn hash(monomial: &Monomial) -> u64 {
     let mut hash = 1u64;
-    for place in 0..monomial.len() {
-        let power = monomial.power_at(place);
+    for power in monomial.powers() {
         hash = hash.wrapping_mul(31).wrapping_add(u64::from(power.0));
         hash = hash.wrapping_mul(31).wrapping_add(u64::from(power.1));
     }

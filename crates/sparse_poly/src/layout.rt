@@ -44,15 +44,23 @@ pub fn layout_for(
     }
 }
 
-/// Stores the monomials of terms as words of one layout, where they fit one.
-pub fn lay(alloc: Global, terms: &mut [Term])
+/// The same terms, whose monomials are stored as words of one layout, where they fit one.
+pub fn laid(alloc: Global, terms: Vec<Term>) -> Vec<Term>
+    ensures { result.items ≡ terms.items }
+{
+    let mut terms = terms;
+    if let Some(layout) = common_layout(alloc, &terms, &[], &[], &[]) {
+        lay(&mut terms, &layout);
+    }
+    terms
+}
+
+// Stores the monomials of terms as words of a layout, where they fit.
+fn lay(terms: &mut [Term], layout: &Layout)
     ensures { terms.new ≡ terms.old }
 {
-    let Some(layout) = common_layout(alloc, terms, &[], &[], &[]) else {
-        return;
-    };
     for term in terms {
-        term.monomial.lay(&layout);
+        term.monomial.lay(layout);
     }
 }
 

@@ -24,6 +24,7 @@ mod stripping;
 mod weighing;
 
 use falling::is_polynomial;
+use layout::laid;
 pub use laws::{
     combined_law, primitive_law, product_law, strip_law, subtraction_law, sum_law, unit_law,
 };
@@ -148,6 +149,7 @@ impl Poly {
         ensures answer { MatchResult result (IsResult terms.items) (IsFault terms.items) }
         ensures degree { IfErr result IsNoDegree }
     {
+        let terms = laid(alloc, terms);
         if is_polynomial(&terms) {
             return Ok(Poly { terms });
         }
