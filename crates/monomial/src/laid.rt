@@ -145,7 +145,7 @@ impl Laid {
     }
 }
 
-/// The powers of a word that are left to read: those in the lanes below some place.
+/// The powers of a word that are left to read: those in its highest lanes, as many as the places say. The lanes below are empty.
 #[derive(Drop)]
 pub struct LanesLeft {
     variables: u128,
@@ -154,14 +154,15 @@ pub struct LanesLeft {
 }
 
 impl Model for LanesLeft {
-    ghost use Rattle.std.specs.Prelude.{List, ℕ, ◌≤◌};
+    ghost use Rattle.std.specs.Prelude.{List, ℕ};
     ghost use Rattle.monomial.specs.Layouts.{lanes, monomial_of};
+    ghost use Rattle.monomial.specs.Lefts.{IsShifted};
 
     ghost Value = { List (ℕ × ℕ) };
 
-    ghost view = { λ l. monomial_of (lanes l.places l.variables) l.word };
+    ghost view = { λ l. monomial_of (lanes 8 l.variables) l.word };
 
-    ghost invariant = { λ l. l.places ≤ 8 };
+    ghost invariant = { λ l. IsShifted l.places l.word };
 }
 
 impl LanesLeft {
@@ -170,11 +171,14 @@ impl LanesLeft {
     pub fn next(&mut self) -> Option<(u32, u16)>
         ensures { IsNextPower self.old self.new result }
     {
-        'lanes: while self.places > 0 {
+        'lanes: while self.places > 0 && self.word != 0 {
+            let var = lane(self.variables, 7);
+            let exp = lane(self.word, 7);
+            self.variables <<= 16;
+            self.word <<= 16;
             self.places -= 1;
-            let exp = lane(self.word, self.places);
             if exp > 0 {
-                return Some((u32::from(lane(self.variables, self.places)), exp));
+                return Some((u32::from(var), exp));
             }
         }
         None

@@ -146,6 +146,15 @@ impl Monomial {
         }
     }
 
+    /// An equal monomial that is not stored as a word. It fails only where no memory is left.
+    pub fn without_layout(&self) -> Result<Monomial, AllocError>
+        ensures { IfOk result (λ m. m ≡ self.now) }
+    {
+        Ok(Monomial {
+            powers: self.powers.without_layout()?,
+        })
+    }
+
     /// The powers `(variable, exponent)`, to be read from the greatest variable down.
     #[inline(always)]
     pub fn powers(&self) -> PowersLeft<'_>

@@ -190,14 +190,34 @@ impl Powers {
         })
     }
 
+    /// The same powers, but not as a word. It fails only where no memory is left.
+    pub fn without_layout(&self) -> Result<Powers, AllocError>
+        ensures { IfOk result (λ p. p ≡ self.now) }
+    {
+        match &self.stored {
+            Stored::Word(laid) => Ok(Powers {
+                stored: Stored::Few(laid.keys()),
+                alloc: self.alloc,
+            }),
+            _ => self.copy(),
+        }
+    }
+
     /// The product. `Degree` comes where an exponent is above 65,535, with the greatest such variable.
     pub fn times(&self, other: &Powers) -> Result<Powers, MonoFault>
         ensures { MatchResult result (IsProductOf self.now other.now) (IsFaultOf self.now other.now) }
     {
+        if let (Stored::Few(first), Stored::Few(second)) = (&self.stored, &other.stored) {
+            return self.times_by_keys(other, first.as_slice(), second.as_slice());
+        }
+        self.times_of_words(other)
+    }
+
+    // The product, where one list at least is not stored as keys.
+    fn times_of_words(&self, other: &Powers) -> Result<Powers, MonoFault>
+        ensures { MatchResult result (IsProductOf self.now other.now) (IsFaultOf self.now other.now) }
+    {
         match (&self.stored, &other.stored) {
-            (Stored::Few(first), Stored::Few(second)) => {
-                self.times_by_keys(other, first.as_slice(), second.as_slice())
-            }
             (Stored::Word(first), Stored::Few(second)) => {
                 let first = first.keys();
                 self.times_by_keys(other, first.as_slice(), second.as_slice())

@@ -1,12 +1,12 @@
 //! The layout in which the monomials of a product are words.
-ghost use Rattle.std.specs.Prelude.{◌≡◌, ◌≤◌, length, IsTrue, IfSome};
+ghost use Rattle.std.specs.Prelude.{◌≡◌, ◌≤◌, length, IsTrue, IfOk, IfSome};
 ghost use Rattle.monomial.specs.Layouts.{IsLayout};
 ghost use Rattle.sparse_poly.specs.Packing.{AllFit};
 
 use crate::Term;
 use arrayvec::ArrayVec;
 use monomial::{Layout, Monomial};
-use std::alloc::Global;
+use std::alloc::{AllocError, Global};
 
 /// The layout for `l*q - a*p`, and `None` where words don't serve: where more than eight variables occur or one from 65,536 on, an exponent is
 /// above 32,767, or the terms are stored in several ways and there are less than three contributions for each.
@@ -53,6 +53,34 @@ pub fn laid(alloc: Global, terms: Vec<Term>) -> Vec<Term>
         lay(&mut terms, &layout);
     }
     terms
+}
+
+/// Equal terms whose monomials are not words, where the first one is a word.
+pub fn without_layout(alloc: Global, terms: &[Term]) -> Result<Option<Vec<Term>>, AllocError>
+    ensures { IfOk result (λ o. IfSome o (λ v. v.items ≡ terms.now)) }
+{
+    let Some(_) = stored_layout(terms) else {
+        return Ok(None);
+    };
+    let mut listed = Vec::with_capacity(alloc, terms.len())?;
+    for term in terms {
+        listed.push(Term {
+            monomial: term.monomial.without_layout()?,
+            coeff: term.coeff,
+        })?;
+    }
+    Ok(Some(listed))
+}
+
+/// The terms of a copy, if there is one.
+pub fn copy_or<'a>(copy: &'a Option<Vec<Term>>, terms: &'a [Term]) -> &'a [Term]
+    requires { IfSome copy.now (λ v. v.items ≡ terms.now) }
+    ensures { result.now ≡ terms.now }
+{
+    match copy {
+        Some(copy) => copy,
+        None => terms,
+    }
 }
 
 // Stores the monomials of terms as words of a layout, where they fit.

@@ -8,7 +8,7 @@ ghost use Rattle.sparse_poly.specs.Standing.{Agree, Stands, AllMonomials, IsDesc
 
 use crate::entry::Share;
 use crate::merging::{merge, sorted};
-use crate::layout::layout_for;
+use crate::layout::{copy_or, layout_for, without_layout};
 use crate::packing::{packed_combination, packed_multiplication};
 use crate::squeezing::squeeze;
 use crate::{PolyFault, Term};
@@ -32,6 +32,33 @@ pub fn combined(
     if let Some(layout) = layout_for(alloc, l, q, a, p) {
         return packed_combination(alloc, &layout, l, q, a, p);
     }
+    let first_copy = without_layout(alloc, l)?;
+    let second_copy = without_layout(alloc, q)?;
+    let third_copy = without_layout(alloc, a)?;
+    let fourth_copy = without_layout(alloc, p)?;
+    combined_by_shares(
+        alloc,
+        copy_or(&first_copy, l),
+        copy_or(&second_copy, q),
+        copy_or(&third_copy, a),
+        copy_or(&fourth_copy, p),
+    )
+}
+
+// The terms of `l*q - a*p`, by shares.
+fn combined_by_shares(
+    alloc: Global,
+    l: &[Term],
+    q: &[Term],
+    a: &[Term],
+    p: &[Term],
+) -> Result<Vec<Term>, PolyFault>
+    requires l_poly { IsPoly l.now }
+    requires q_poly { IsPoly q.now }
+    requires a_poly { IsPoly a.now }
+    requires p_poly { IsPoly p.now }
+    ensures { MatchResult result (λ v. IsResult (contributions l.now q.now a.now p.now) v.items) (IsFault (contributions l.now q.now a.now p.now)) }
+{
     let mut high = None;
     let first = part(alloc, l, q, false, &mut high)?;
     let second = part(alloc, a, p, true, &mut high)?;
@@ -53,6 +80,25 @@ pub fn multiplied(alloc: Global, first: &[Term], second: &[Term]) -> Result<Vec<
     if let Some(layout) = layout_for(alloc, first, second, &[], &[]) {
         return packed_multiplication(alloc, &layout, first, second);
     }
+    let first_copy = without_layout(alloc, first)?;
+    let second_copy = without_layout(alloc, second)?;
+    multiplied_by_shares(
+        alloc,
+        copy_or(&first_copy, first),
+        copy_or(&second_copy, second),
+    )
+}
+
+// The terms of a product, by shares.
+fn multiplied_by_shares(
+    alloc: Global,
+    first: &[Term],
+    second: &[Term],
+) -> Result<Vec<Term>, PolyFault>
+    requires first_poly { IsPoly first.now }
+    requires second_poly { IsPoly second.now }
+    ensures { MatchResult result (λ v. IsResult (products first.now second.now) v.items) (IsFault (products first.now second.now)) }
+{
     let half = first.len() / 2;
     let mut high = None;
     let front = part(alloc, &first[..half], second, false, &mut high)?;

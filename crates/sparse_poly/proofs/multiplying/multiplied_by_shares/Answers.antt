@@ -4,11 +4,11 @@ use Rattle.sparse_poly.specs.Contributions.{degree_of}
 use Rattle.sparse_poly.specs.Polynomials.{products}
 use Rattle.sparse_poly.specs.Standing.{Stands}
 use Rattle.sparse_poly.proofs.Standings.{halves, halves_high, halves_sums, StandsForBoth-append, IsResult-from_shares, IsFault-from_shares}
-use Rattle.sparse_poly.proofs.multiplying.multiplied.Goals as goal
+use Rattle.sparse_poly.proofs.multiplying.multiplied_by_shares.Goals as goal
 
-pub returns-in-Some-high : goal.returns-in-Some-high
-returns-in-Some-high c =
-    sym (halves_high false c.args.first.now c.args.second.now _ _ None c.part.new.high c.part-2.new.high (halves c.args.first.now (length c.args.first.now / 2)) c.in_ok-front.ensures.high c.in_ok-back.ensures.high) ∙ c.in-Some-high.is
+pub returns-in-Some : goal.returns-in-Some
+returns-in-Some c =
+    sym (halves_high false c.args.first.now c.args.second.now _ _ None c.part.new.high c.part-2.new.high (halves c.args.first.now (length c.args.first.now / 2)) c.in_ok-front.ensures.high c.in_ok-back.ensures.high) ∙ c.in-Some.is
 
 pub returns-in-Ok : goal.returns-in-Ok
 returns-in-Ok c =

@@ -3,11 +3,11 @@ use Rattle.std.specs.declared.option.Option.TheVariants.{None}
 use Rattle.sparse_poly.specs.Contributions.{degree_of, contributions, signed_products}
 use Rattle.sparse_poly.proofs.Standings.{combined_high, Stands-append, IsResult-from_shares, IsFault-from_shares}
 use Rattle.sparse_poly.proofs.Adding.{none_before}
-use Rattle.sparse_poly.proofs.multiplying.combined.Goals as goal
+use Rattle.sparse_poly.proofs.multiplying.combined_by_shares.Goals as goal
 
-pub returns-in-Some-high : goal.returns-in-Some-high
-returns-in-Some-high c =
-    sym (combined_high c.args.l.now c.args.q.now c.args.a.now c.args.p.now _ _ c.in_ok-first.ensures.high c.in_ok-second.ensures.high) ∙ c.in-Some-high.is
+pub returns-in-Some : goal.returns-in-Some
+returns-in-Some c =
+    sym (combined_high c.args.l.now c.args.q.now c.args.a.now c.args.p.now _ _ c.in_ok-first.ensures.high c.in_ok-second.ensures.high) ∙ c.in-Some.is
 
 pub returns-in-Ok : goal.returns-in-Ok
 returns-in-Ok c =
