@@ -146,7 +146,7 @@ fn row_of(
     Ok(shares)
 }
 
-// The contributions of two terms.
+// The contributions of two terms, merged as they are made.
 fn pair_of(
     alloc: Global,
     t: PackedTerm,
@@ -257,7 +257,7 @@ fn joined(x: PackedShare, y: PackedShare) -> PackedShare
     }
 }
 
-// The greatest share of two falling lists from these places on, which go behind it.
+// Takes the greatest share that two falling lists have from these places on. The places go past it.
 #[inline(always)]
 fn next_share(
     first: &[PackedShare],
