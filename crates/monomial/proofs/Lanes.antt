@@ -1,5 +1,5 @@
 -- The lanes of a word.
-use Rattle.std.specs.Prelude.{◌≡◌, ◌<◌, ◌≤◌, ℕ, zero, suc, ◌+◌, ◌-◌, ◌*◌, ◌/◌, ◌%◌, ◌^◌, if◌then◌else◌, nat_lt, List, [], ◌∷◌, ◌++◌, length, take, slice_index_or, refl}
+use Rattle.std.specs.Prelude.{◌≡◌, ◌≢◌, ◌<◌, ◌≤◌, ℕ, zero, suc, ◌+◌, ◌-◌, ◌*◌, ◌/◌, ◌%◌, ◌^◌, if◌then◌else◌, nat_lt, List, [], ◌∷◌, ◌++◌, length, take, slice_index_or, refl}
 use mathlib.Core.Logic.{◌⊎◌, inl, inr}
 use Rattle.std.proofs.Common.{arith, sym, ◌∙◌, ap, subst}
 use Rattle.std.proofs.Math.Numerals.{add-one}
@@ -8,8 +8,8 @@ use Rattle.std.proofs.lemmas.Bool.{cases_lt}
 use Rattle.std.proofs.Math.Seq.{take-suc}
 use Rattle.std.specs.List.{AllByRecursion}
 use Rattle.monomial.specs.Layouts.{lane, lanes, AreFalling, IsLayout, monomial_of}
-use Rattle.monomial.specs.Lefts.{IsShifted}
-use Rattle.monomial.proofs.Words.{more_cases, place_more}
+use Rattle.monomial.specs.Monomials.{exponent}
+use Rattle.monomial.proofs.Words.{more_cases, place_more, own_exponent, other_exponent}
 
 pub lane_below : (w n : ℕ) → lane w n < 65536
 lane_below w n = mod_below (w / 2 ^ (16 * n)) 65536 (omega arith)
@@ -188,71 +188,15 @@ lanes_fall w (suc (suc m)) n h l f = each (λ k. lanes_fall w (suc m) n h k f.1)
         let next : m ≡ n - 1 = omega arith in
         subst (λ j. lane w j < lane w n) next (subst (λ j. lane w m < lane w j) top f.0.0)
 
--- a word shifted by a lane
-shifted_lowest : (w : ℕ) → lane (w * 65536 % 2 ^ 128) 0 ≡ 0
-shifted_lowest w = omega arith
+-- the exponent of the highest lane's variable, and of another
+opened : (n v : ℕ) → 0 < n → AreFalling (lanes n v) → AreFalling (lane v (n - 1) ∷ lanes (n - 1) v)
+opened n v h f = subst AreFalling (lanes_first n v h) f
 
-nested : (x j : ℕ) → x % 2 ^ (j + 16) % 65536 ≡ x % 65536
-nested x j = ap (λ y. y % 65536) (mod-pow-add x j 16) ∙ mod-mul-add (x / 65536 % 2 ^ j) 65536 (x % 65536) (mod_below x 65536 (omega arith))
+pub falling_less : (n v : ℕ) → 0 < n → AreFalling (lanes n v) → AreFalling (lanes (n - 1) v)
+falling_less n v h f = (opened n v h f).1
 
-pub shifted_lane : (w n : ℕ) → n < 7 → lane (w * 65536 % 2 ^ 128) (suc n) ≡ lane w n
-shifted_lane w n h =
-    ap (λ y. y / 2 ^ (16 * suc n) % 65536) (ap (λ k. w * 65536 % 2 ^ k) (sym (whole n h)))
-    ∙ ap (λ y. y % 65536) (field_of (w * 65536) ((96 - 16 * n) + 16) (16 * suc n))
-    ∙ nested (w * 65536 / 2 ^ (16 * suc n)) (96 - 16 * n)
-    ∙ ap (λ k. w * 65536 / 2 ^ k % 65536) (shift_place n)
-    ∙ ap (λ y. y % 65536) (sym (shr-shr (w * 65536) 16 (16 * n)))
-    ∙ ap (λ y. y / 2 ^ (16 * n) % 65536) (shl-shr w 16)
-  where
-    whole : (n : ℕ) → n < 7 → ((96 - 16 * n) + 16) + 16 * suc n ≡ 128
-    whole n h = omega arith
+pub exponent_own : (n v w : ℕ) → 0 < n → AreFalling (lanes n v) → exponent (monomial_of (lanes n v) w) (lane v (n - 1)) ≡ lane w (n - 1)
+exponent_own n v w h f = ap (λ vs. exponent (monomial_of vs w) (lane v (n - 1))) (lanes_first n v h) ∙ own_exponent (lane v (n - 1)) (lanes (n - 1) v) w (opened n v h f).0 ∙ ap (lane w) (length-lanes (n - 1) v)
 
--- a power before others, where its exponent is not 0
-put : ℕ → ℕ → List (ℕ × ℕ) → List (ℕ × ℕ)
-put v e ps = if nat_lt 0 e then (v, e) ∷ ps else ps
-
-put_lane : (v : ℕ) (vs : List ℕ) (w : ℕ) → monomial_of (v ∷ vs) w ≡ put v (lane w (length vs)) (monomial_of vs w)
-unfolding put
-put_lane v vs w = refl
-
-put_none : (v e : ℕ) (ps : List (ℕ × ℕ)) → e ≡ 0 → put v e ps ≡ ps
-unfolding put
-put_none v e ps h = ap (λ k. if nat_lt 0 k then (v, k) ∷ ps else ps) h
-
-put_same : (u v d e : ℕ) (ps qs : List (ℕ × ℕ)) → u ≡ v → d ≡ e → ps ≡ qs → put u d ps ≡ put v e qs
-put_same u v d e ps qs f g h = ap (λ k. put k d ps) f ∙ ap (λ k. put v k ps) g ∙ ap (put v e) h
-
-lanes_put : (v w n : ℕ) → monomial_of (lanes (suc n) v) w ≡ put (lane v n) (lane w n) (monomial_of (lanes n v) w)
-unfolding lanes
-lanes_put v w n = put_lane (lane v n) (lanes n v) w ∙ ap (λ k. put (lane v n) (lane w k) (monomial_of (lanes n v) w)) (length-lanes n v)
-
-pub shifted_lanes : (v w n : ℕ) → n < 8 → monomial_of (lanes (suc n) (v * 65536 % 2 ^ 128)) (w * 65536 % 2 ^ 128) ≡ monomial_of (lanes n v) w
-shifted_lanes v w zero h = lanes_put (v * 65536 % 2 ^ 128) (w * 65536 % 2 ^ 128) 0 ∙ put_none _ _ _ (shifted_lowest w) ∙ lanes_none (v * 65536 % 2 ^ 128) (w * 65536 % 2 ^ 128) ∙ sym (lanes_none v w)
-shifted_lanes v w (suc n) h =
-    lanes_put (v * 65536 % 2 ^ 128) (w * 65536 % 2 ^ 128) (suc n)
-    ∙ put_same _ _ _ _ _ _ (shifted_lane v n (omega arith)) (shifted_lane w n (omega arith)) (shifted_lanes v w n (omega arith))
-    ∙ sym (lanes_put v w n)
-
-pub IsShifted-more : (places w : ℕ) → 0 < places → IsShifted places w → IsShifted (places - 1) (w * 65536 % 2 ^ 128)
-IsShifted-more places w h g = record { within = omega (arith, g.within); empty = each }
-  where
-    each : (n : ℕ) → n + (places - 1) < 8 → lane (w * 65536 % 2 ^ 128) n ≡ 0
-    each zero l = shifted_lowest w
-    each (suc n) l = shifted_lane w n (omega (arith, l, h)) ∙ g.empty n (omega (arith, l, h))
-
--- a word whose lanes are empty
-pub no_lanes : (v w n : ℕ) → ((k : ℕ) → k < n → lane w k ≡ 0) → monomial_of (lanes n v) w ≡ []
-no_lanes v w zero h = lanes_none v w
-no_lanes v w (suc n) h = lanes_put v w n ∙ put_none (lane v n) (lane w n) _ (h n (omega arith)) ∙ no_lanes v w n (λ k l. h k (omega arith))
-
-pub empty_lanes : (v w : ℕ) → IsShifted 0 w → monomial_of (lanes 8 v) w ≡ []
-empty_lanes v w g = no_lanes v w 8 (λ k l. g.empty k (omega arith))
-
-pub zero_lanes : (v w : ℕ) → w ≡ 0 → monomial_of (lanes 8 v) w ≡ []
-zero_lanes v w e = no_lanes v w 8 (λ k l. ap (λ x. x / 2 ^ (16 * k) % 65536) e ∙ none k)
-  where
-    none : (k : ℕ) → 0 / 2 ^ (16 * k) % 65536 ≡ 0
-    none k = ap (λ x. x % 65536) (least (0 / 2 ^ (16 * k)) (shr_le 0 (16 * k)))
-      where
-        least : (a : ℕ) → a ≤ 0 → a ≡ 0
-        least a l = omega arith
+pub exponent_other : (n v w u : ℕ) → 0 < n → lane v (n - 1) ≢ u → exponent (monomial_of (lanes n v) w) u ≡ exponent (monomial_of (lanes (n - 1) v) w) u
+exponent_other n v w u h e = ap (λ vs. exponent (monomial_of vs w) u) (lanes_first n v h) ∙ other_exponent (lane v (n - 1)) (lanes (n - 1) v) w u e

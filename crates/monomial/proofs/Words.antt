@@ -127,14 +127,14 @@ pub IsMonomial-monomial_of : (vs : List ℕ) (w : ℕ) → IsLayout vs → IsMon
 IsMonomial-monomial_of vs w h = record { powers = IsPowers-monomial_of vs w h.falling; in_range = in_range-monomial_of vs w h.in_range }
 
 -- its exponents
-own_exponent : (v : ℕ) (vs : List ℕ) (w : ℕ) → AllByRecursion (λ u. u < v) vs → exponent (monomial_of (v ∷ vs) w) v ≡ lane w (length vs)
+pub own_exponent : (v : ℕ) (vs : List ℕ) (w : ℕ) → AllByRecursion (λ u. u < v) vs → exponent (monomial_of (v ∷ vs) w) v ≡ lane w (length vs)
 own_exponent v vs w h = each (more_cases v vs w)
   where
     each : ((0 < lane w (length vs)) × (monomial_of (v ∷ vs) w ≡ (v, lane w (length vs)) ∷ monomial_of vs w)) ⊎ ((lane w (length vs) ≡ 0) × (monomial_of (v ∷ vs) w ≡ monomial_of vs w)) → exponent (monomial_of (v ∷ vs) w) v ≡ lane w (length vs)
     each (inl (l, e)) = ap (λ ps. exponent ps v) e ∙ exponent_here (v, lane w (length vs)) (monomial_of vs w) v refl
     each (inr (l, e)) = ap (λ ps. exponent ps v) e ∙ exponent_above v (monomial_of vs w) v (IsBelow-monomial_of v vs w h) (omega arith) ∙ sym l
 
-other_exponent : (v : ℕ) (vs : List ℕ) (w u : ℕ) → v ≢ u → exponent (monomial_of (v ∷ vs) w) u ≡ exponent (monomial_of vs w) u
+pub other_exponent : (v : ℕ) (vs : List ℕ) (w u : ℕ) → v ≢ u → exponent (monomial_of (v ∷ vs) w) u ≡ exponent (monomial_of vs w) u
 other_exponent v vs w u n = each (more_cases v vs w)
   where
     each : ((0 < lane w (length vs)) × (monomial_of (v ∷ vs) w ≡ (v, lane w (length vs)) ∷ monomial_of vs w)) ⊎ ((lane w (length vs) ≡ 0) × (monomial_of (v ∷ vs) w ≡ monomial_of vs w)) → exponent (monomial_of (v ∷ vs) w) u ≡ exponent (monomial_of vs w) u

@@ -3,5 +3,4 @@ pub mod Keys
 pub mod KeyProducts
 pub mod Stored
 pub mod Layouts
-pub mod Lefts
 pub mod Readings

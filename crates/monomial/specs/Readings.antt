@@ -1,12 +1,12 @@
 -- The powers that are left to read.
-use Rattle.std.specs.Prelude.{ℕ, List, map}
+use Rattle.std.specs.Prelude.{ℕ, List, map, drop}
 use Rattle.monomial.specs.declared.reading.PowersLeft.{PowersLeft}
 use Rattle.monomial.specs.declared.reading.Left.{Left}
 use Rattle.monomial.specs.declared.reading.Left.TheVariants.{Word, Few, Many}
 use Rattle.monomial.specs.Keys.{power_of}
 
 abbrev pub left_of : Left → List (ℕ × ℕ)
-left_of (Word lanes) = lanes
+left_of (Word keys place) = drop place (map power_of keys.items)
 left_of (Few keys) = map power_of keys.now
 left_of (Many powers) = powers.now
 

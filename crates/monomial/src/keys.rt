@@ -30,6 +30,16 @@ impl Key {
         }
     }
 
+    /// The key of a power whose variable has sixteen bits.
+    #[inline(always)]
+    pub fn of_lanes(var: u16, exp: u16) -> Key
+        ensures { power_of result ≡ (var, exp) }
+    {
+        Key {
+            word: u32::from(var) * 65536 + u32::from(exp),
+        }
+    }
+
     /// The power of this key.
     pub fn power(self) -> (u32, u16)
         ensures value { result ≡ power_of self }
@@ -71,6 +81,7 @@ pub enum KeyProduct {
 }
 
 /// The product of two lists of keys.
+#[inline(always)]
 pub fn product_of_keys(first: &[Key], second: &[Key]) -> KeyProduct
     ensures { IsKeyProduct (map power_of first.now) (map power_of second.now) result }
 {
@@ -115,8 +126,9 @@ pub fn product_of_keys(first: &[Key], second: &[Key]) -> KeyProduct
     KeyProduct::Made(keys)
 }
 
-// The key at a place.
-fn key_at(keys: &[Key], place: usize) -> Key
+/// The key at a place.
+#[inline(always)]
+pub fn key_at(keys: &[Key], place: usize) -> Key
     requires { place < length keys.now }
     ensures { power_of result ≡ slice_index_or (map power_of keys.now) place (0, 0) }
 {

@@ -1,10 +1,8 @@
 //! Monomials as words of exponents.
 ghost use Rattle.std.specs.Prelude.{◌≡◌, ◌<◌, ◌≤◌, ℕ, List, IsTrue, IfSome, map, length, slice_index_or};
-ghost use Rattle.std.specs.List.{AllByRecursion};
 ghost use Rattle.monomial.specs.Monomials.{monomial_cmp, exponent};
 ghost use Rattle.monomial.specs.Layouts.{lane, lanes, monomial_of, IsWordIn, IsLayout};
 ghost use Rattle.monomial.specs.Keys.{power_of};
-ghost use Rattle.monomial.specs.Lefts.{IsNextPower};
 
 use crate::keys::Key;
 use crate::layout::{Layout, lane};
@@ -54,19 +52,6 @@ impl Laid {
         self.layout.copy()
     }
 
-    /// The powers that are left to read, which are all.
-    pub fn powers(&self) -> LanesLeft
-        ensures value { result ≡ self.now }
-        ensures few { length self.now ≤ 8 }
-        ensures low { AllByRecursion (λ (p : ℕ × ℕ). p.0 < 65536) self.now }
-    {
-        LanesLeft {
-            variables: self.layout.word(),
-            word: self.word,
-            places: 8,
-        }
-    }
-
     /// The word in a layout, where that is the layout of this monomial and no exponent is above 32,767.
     pub fn word_in(&self, layout: &Layout) -> Option<u128>
         ensures { IfSome result (IsWordIn layout.now self.now) }
@@ -93,95 +78,30 @@ impl Laid {
     pub fn exponent(&self, var: u32) -> u32
         ensures { result ≡ exponent self.now var }
     {
-        let mut left = self.powers();
-        'powers: while let Some(power) = left.next() {
-            if power.0 == var {
-                return u32::from(power.1);
+        let variables = self.layout.word();
+        let word = self.word;
+        for i in 0..8 {
+            if u32::from(lane(variables, 7 - i)) == var {
+                return u32::from(lane(word, 7 - i));
             }
         }
         0
-    }
-
-    /// The number of powers.
-    pub fn len(&self) -> usize
-        ensures { result ≡ length self.now }
-    {
-        let mut left = self.powers();
-        let mut count = 0;
-        'powers: while let Some(_) = left.next() {
-            count += 1;
-        }
-        count
-    }
-
-    /// The power at a place.
-    pub fn power_at(&self, place: usize) -> (u32, u16)
-        requires { place < length self.now }
-        ensures { result ≡ slice_index_or self.now place (0, 0) }
-    {
-        let mut left = self.powers();
-        let mut before = place;
-        'powers: while let Some(power) = left.next() {
-            if before == 0 {
-                return power;
-            }
-            before -= 1;
-        }
-        (0, 0)
     }
 
     /// The powers as keys.
     pub fn keys(&self) -> ArrayVec<Key, 8>
         ensures { map power_of result.items ≡ self.now }
     {
-        let mut left = self.powers();
+        let variables = self.layout.word();
+        let word = self.word;
         let mut keys = ArrayVec::new();
-        'powers: while let Some(power) = left.next() {
-            if let Some(key) = Key::of(power) {
-                keys.push(key);
+        for i in 0..8 {
+            let exp = lane(word, 7 - i);
+            if exp > 0 {
+                keys.push(Key::of_lanes(lane(variables, 7 - i), exp));
             }
         }
         keys
-    }
-}
-
-/// The powers of a word that are left to read: those in its highest lanes, as many as the places say. The lanes below are empty.
-#[derive(Drop)]
-pub struct LanesLeft {
-    variables: u128,
-    word: u128,
-    places: usize,
-}
-
-impl Model for LanesLeft {
-    ghost use Rattle.std.specs.Prelude.{List, ℕ};
-    ghost use Rattle.monomial.specs.Layouts.{lanes, monomial_of};
-    ghost use Rattle.monomial.specs.Lefts.{IsShifted};
-
-    ghost Value = { List (ℕ × ℕ) };
-
-    ghost view = { λ l. monomial_of (lanes 8 l.variables) l.word };
-
-    ghost invariant = { λ l. IsShifted l.places l.word };
-}
-
-impl LanesLeft {
-    /// Reads a power, the greatest variable first.
-    #[inline(always)]
-    pub fn next(&mut self) -> Option<(u32, u16)>
-        ensures { IsNextPower self.old self.new result }
-    {
-        'lanes: while self.places > 0 && self.word != 0 {
-            let var = lane(self.variables, 7);
-            let exp = lane(self.word, 7);
-            self.variables <<= 16;
-            self.word <<= 16;
-            self.places -= 1;
-            if exp > 0 {
-                return Some((u32::from(var), exp));
-            }
-        }
-        None
     }
 }
 

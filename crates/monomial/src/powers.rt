@@ -106,7 +106,7 @@ impl Powers {
         ensures { left_powers result ≡ self.now }
     {
         match &self.stored {
-            Stored::Word(laid) => PowersLeft::of_word(laid.powers()),
+            Stored::Word(laid) => PowersLeft::of_word(laid.keys()),
             Stored::Few(keys) => PowersLeft::of_keys(keys.as_slice()),
             Stored::Many(powers) => PowersLeft::of_list(powers),
         }
@@ -132,7 +132,7 @@ impl Powers {
         ensures { result ≡ length self.now }
     {
         match &self.stored {
-            Stored::Word(laid) => laid.len(),
+            Stored::Word(laid) => laid.keys().len(),
             Stored::Few(keys) => keys.len(),
             Stored::Many(powers) => powers.len(),
         }
@@ -145,7 +145,7 @@ impl Powers {
         ensures bound { result.1 ≤ 65535 }
     {
         match &self.stored {
-            Stored::Word(laid) => small(laid.power_at(place)),
+            Stored::Word(laid) => laid.keys().as_slice()[place].power(),
             Stored::Few(keys) => keys.as_slice()[place].power(),
             Stored::Many(powers) => small(powers[place]),
         }
@@ -214,6 +214,7 @@ impl Powers {
     }
 
     // The product, where one list at least is not stored as keys.
+    #[inline(never)]
     fn times_of_words(&self, other: &Powers) -> Result<Powers, MonoFault>
         ensures { MatchResult result (IsProductOf self.now other.now) (IsFaultOf self.now other.now) }
     {

@@ -4,13 +4,14 @@ ghost use Rattle.std.specs.Iterator.{YieldsFirst, item_count};
 ghost use Rattle.monomial.specs.Keys.{power_of};
 ghost use Rattle.monomial.specs.Readings.{left_powers};
 
-use crate::keys::Key;
-use crate::laid::LanesLeft;
+use crate::keys::{Key, key_at};
+use arrayvec::ArrayVec;
 
 // The powers that are left, by how they are stored.
 #[derive(Drop)]
 enum Left<'a> {
-    Word(LanesLeft),
+    // The keys of a word, from a place on.
+    Word { keys: ArrayVec<Key, 8>, place: usize },
     Few(&'a [Key]),
     Many(&'a [(u32, u16)]),
 }
@@ -22,13 +23,13 @@ pub struct PowersLeft<'a> {
 }
 
 impl<'a> PowersLeft<'a> {
-    /// The powers of a word.
+    /// The powers of a word, whose keys these are.
     #[inline(always)]
-    pub fn of_word(lanes: LanesLeft) -> PowersLeft<'a>
-        ensures { left_powers result ≡ lanes }
+    pub fn of_word(keys: ArrayVec<Key, 8>) -> PowersLeft<'a>
+        ensures { left_powers result ≡ map power_of keys.items }
     {
         PowersLeft {
-            left: Left::Word(lanes),
+            left: Left::Word { keys, place: 0 },
         }
     }
 
@@ -63,7 +64,14 @@ impl<'a> Iterator for PowersLeft<'a> {
     #[inline(always)]
     fn next(&mut self) -> Option<(u32, u16)> {
         match &mut self.left {
-            Left::Word(lanes) => lanes.next(),
+            Left::Word { keys, place } => {
+                if *place >= keys.len() {
+                    return None;
+                }
+                let key = key_at(keys.as_slice(), *place);
+                *place += 1;
+                Some(key.power())
+            }
             Left::Few(keys) => {
                 let (first, others) = keys.split_first()?;
                 *keys = others;

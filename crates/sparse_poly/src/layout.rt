@@ -44,10 +44,16 @@ pub fn layout_for(
     }
 }
 
-/// The same terms, whose monomials are stored as words of one layout, where they fit one.
+// From so many terms on, the terms of a polynomial are stored as words where they fit a layout.
+const SEVERAL: usize = 3;
+
+/// The same terms, which are stored as words of one layout where there are several, and they fit one.
 pub fn laid(alloc: Global, terms: Vec<Term>) -> Vec<Term>
     ensures { result.items ≡ terms.items }
 {
+    if terms.len() < SEVERAL {
+        return terms;
+    }
     let mut terms = terms;
     if let Some(layout) = common_layout(alloc, &terms, &[], &[], &[]) {
         lay(&mut terms, &layout);
@@ -55,13 +61,15 @@ pub fn laid(alloc: Global, terms: Vec<Term>) -> Vec<Term>
     terms
 }
 
-/// Equal terms whose monomials are not words, where the first one is a word.
-pub fn without_layout(alloc: Global, terms: &[Term]) -> Result<Option<Vec<Term>>, AllocError>
-    ensures { IfOk result (λ o. IfSome o (λ v. v.items ≡ terms.now)) }
+/// Whether the first monomial is stored as a word.
+pub fn is_laid(terms: &[Term]) -> bool {
+    stored_layout(terms).is_some()
+}
+
+/// Equal terms, whose monomials are not stored as words.
+pub fn without_layout(alloc: Global, terms: &[Term]) -> Result<Vec<Term>, AllocError>
+    ensures { IfOk result (λ v. v.items ≡ terms.now) }
 {
-    let Some(_) = stored_layout(terms) else {
-        return Ok(None);
-    };
     let mut listed = Vec::with_capacity(alloc, terms.len())?;
     for term in terms {
         listed.push(Term {
@@ -69,18 +77,7 @@ pub fn without_layout(alloc: Global, terms: &[Term]) -> Result<Option<Vec<Term>>
             coeff: term.coeff,
         })?;
     }
-    Ok(Some(listed))
-}
-
-/// The terms of a copy, if there is one.
-pub fn copy_or<'a>(copy: &'a Option<Vec<Term>>, terms: &'a [Term]) -> &'a [Term]
-    requires { IfSome copy.now (λ v. v.items ≡ terms.now) }
-    ensures { result.now ≡ terms.now }
-{
-    match copy {
-        Some(copy) => copy,
-        None => terms,
-    }
+    Ok(listed)
 }
 
 // Stores the monomials of terms as words of a layout, where they fit.

@@ -8,7 +8,7 @@ ghost use Rattle.sparse_poly.specs.Standing.{Agree, Stands, AllMonomials, IsDesc
 
 use crate::entry::Share;
 use crate::merging::{merge, sorted};
-use crate::layout::{copy_or, layout_for, without_layout};
+use crate::layout::{is_laid, layout_for, without_layout};
 use crate::packing::{packed_combination, packed_multiplication};
 use crate::squeezing::squeeze;
 use crate::{PolyFault, Term};
@@ -32,17 +32,14 @@ pub fn combined(
     if let Some(layout) = layout_for(alloc, l, q, a, p) {
         return packed_combination(alloc, &layout, l, q, a, p);
     }
-    let first_copy = without_layout(alloc, l)?;
-    let second_copy = without_layout(alloc, q)?;
-    let third_copy = without_layout(alloc, a)?;
-    let fourth_copy = without_layout(alloc, p)?;
-    combined_by_shares(
-        alloc,
-        copy_or(&first_copy, l),
-        copy_or(&second_copy, q),
-        copy_or(&third_copy, a),
-        copy_or(&fourth_copy, p),
-    )
+    if is_laid(l) || is_laid(q) || is_laid(a) || is_laid(p) {
+        let l = without_layout(alloc, l)?;
+        let q = without_layout(alloc, q)?;
+        let a = without_layout(alloc, a)?;
+        let p = without_layout(alloc, p)?;
+        return combined_by_shares(alloc, &l, &q, &a, &p);
+    }
+    combined_by_shares(alloc, l, q, a, p)
 }
 
 // The terms of `l*q - a*p`, by shares.
@@ -80,13 +77,12 @@ pub fn multiplied(alloc: Global, first: &[Term], second: &[Term]) -> Result<Vec<
     if let Some(layout) = layout_for(alloc, first, second, &[], &[]) {
         return packed_multiplication(alloc, &layout, first, second);
     }
-    let first_copy = without_layout(alloc, first)?;
-    let second_copy = without_layout(alloc, second)?;
-    multiplied_by_shares(
-        alloc,
-        copy_or(&first_copy, first),
-        copy_or(&second_copy, second),
-    )
+    if is_laid(first) || is_laid(second) {
+        let first = without_layout(alloc, first)?;
+        let second = without_layout(alloc, second)?;
+        return multiplied_by_shares(alloc, &first, &second);
+    }
+    multiplied_by_shares(alloc, first, second)
 }
 
 // The terms of a product, by shares.

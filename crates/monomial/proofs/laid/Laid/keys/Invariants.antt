@@ -1,14 +1,10 @@
-use Rattle.std.proofs.Common.{◌≡◌, ◌<◌, ◌≤◌, ◌+◌, ◌++◌, length, map, ℕ}
-use Rattle.std.specs.List.{AllByRecursion}
+use Rattle.std.proofs.Common.{◌≡◌, ◌≤◌, ◌-◌, ◌++◌, length, map}
 use Rattle.monomial.specs.Keys.{power_of}
+use Rattle.monomial.specs.Layouts.{lanes, monomial_of}
 use Rattle.monomial.proofs.laid.Laid.keys.Given as goal
 
-abbrev pub invariant-powers : goal.invariant-powers
-invariant-powers l = record {
-  made : map power_of l.keys.items ++ l.left ≡ l.fn.self;
-  low : AllByRecursion (λ (p : ℕ × ℕ). p.0 < 65536) l.left;
-  room : length l.keys.items + length l.left ≤ 8;
+abbrev pub invariant-loop-i : goal.invariant-loop-i
+invariant-loop-i l = record {
+  room : length l.keys.items ≤ l.i;
+  made : map power_of l.keys.items ++ monomial_of (lanes (8 - l.i) l.variables) l.word ≡ l.fn.self;
 }
-
-abbrev pub decreases-powers : goal.decreases-powers
-decreases-powers l = length l.left
