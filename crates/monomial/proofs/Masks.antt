@@ -1,6 +1,6 @@
 -- The highest bits of the lanes of a word.
 use Rattle.std.specs.Prelude.{◌≡◌, ◌<◌, ◌≤◌, ℕ, zero, suc, ◌+◌, ◌*◌, ◌/◌, ◌%◌, ◌^◌, min, IsTrue, refl}
-use Rattle.std.proofs.Common.{arith, sym, ◌∙◌, ap, subst, bit_and, nat_eq}
+use Rattle.std.proofs.Common.{arith, sym, ◌∙◌, ap, bit_and, nat_eq}
 use Rattle.std.proofs.lemmas.Bool.Decides.{nat_tests}
 use Rattle.std.specs.Int.{bit_at}
 use Rattle.std.proofs.lemmas.Nat.{shr-shr}

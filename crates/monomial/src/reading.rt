@@ -11,7 +11,10 @@ use arrayvec::ArrayVec;
 #[derive(Drop)]
 enum Left<'a> {
     // The keys of a word, from a place on.
-    Word { keys: ArrayVec<Key, 8>, place: usize },
+    Word {
+        keys: ArrayVec<Key, 8>,
+        place: usize,
+    },
     Few(&'a [Key]),
     Many(&'a [(u32, u16)]),
 }

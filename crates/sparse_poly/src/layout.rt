@@ -10,13 +10,7 @@ use std::alloc::{AllocError, Global};
 
 /// The layout for `l*q - a*p`, and `None` where words don't serve: where more than eight variables occur or one from 65,536 on, an exponent is
 /// above 32,767, or the terms are stored in several ways and there are less than three contributions for each.
-pub fn layout_for(
-    alloc: Global,
-    l: &[Term],
-    q: &[Term],
-    a: &[Term],
-    p: &[Term],
-) -> Option<Layout>
+pub fn layout_for(alloc: Global, l: &[Term], q: &[Term], a: &[Term], p: &[Term]) -> Option<Layout>
     ensures layout { IfSome result IsLayout }
     ensures l { IfSome result (λ y. AllFit y l.now) }
     ensures q { IfSome result (λ y. AllFit y q.now) }
@@ -24,7 +18,10 @@ pub fn layout_for(
     ensures p { IfSome result (λ y. AllFit y p.now) }
 {
     if let Some(layout) = stored_layout(q) {
-        if all_fit(&layout, l) && all_fit(&layout, q) && all_fit(&layout, a) && all_fit(&layout, p)
+        if all_fit(&layout, l)
+            && all_fit(&layout, q)
+            && all_fit(&layout, a)
+            && all_fit(&layout, p)
         {
             return Some(layout);
         }
@@ -44,14 +41,12 @@ pub fn layout_for(
     }
 }
 
-// From so many terms on, the terms of a polynomial are stored as words where they fit a layout.
-const SEVERAL: usize = 3;
-
-/// The same terms, which are stored as words of one layout where there are several, and they fit one.
+/// The same terms, which are stored as words of one layout where they fit one. One or two terms are so only where their variables are below
+/// eight: then all such polynomials have one layout.
 pub fn laid(alloc: Global, terms: Vec<Term>) -> Vec<Term>
     ensures { result.items ≡ terms.items }
 {
-    if terms.len() < SEVERAL {
+    if terms.len() < 3 && !has_low_variables(&terms) {
         return terms;
     }
     let mut terms = terms;
@@ -59,6 +54,18 @@ pub fn laid(alloc: Global, terms: Vec<Term>) -> Vec<Term>
         lay(&mut terms, &layout);
     }
     terms
+}
+
+// Whether all variables are below eight.
+fn has_low_variables(terms: &[Term]) -> bool {
+    for term in terms {
+        if let Some(var) = term.monomial.top() {
+            if var >= 8 {
+                return false;
+            }
+        }
+    }
+    true
 }
 
 /// Whether the first monomial is stored as a word.
@@ -112,13 +119,7 @@ fn all_fit(layout: &Layout, terms: &[Term]) -> bool
 }
 
 // A layout of all variables that occur in these terms, if there is one.
-fn common_layout(
-    alloc: Global,
-    l: &[Term],
-    q: &[Term],
-    a: &[Term],
-    p: &[Term],
-) -> Option<Layout> {
+fn common_layout(alloc: Global, l: &[Term], q: &[Term], a: &[Term], p: &[Term]) -> Option<Layout> {
     let mut occurring = Occurring {
         variables: ArrayVec::new(),
         last: None,

@@ -24,10 +24,10 @@ mod stripping;
 mod weighing;
 
 use falling::is_polynomial;
-use layout::laid;
 pub use laws::{
     combined_law, primitive_law, product_law, strip_law, subtraction_law, sum_law, unit_law,
 };
+use layout::laid;
 use monomial::Monomial;
 use multiplying::{added, combined, multiplied, summed};
 use std::alloc::{AllocError, AllocFailed, Global};

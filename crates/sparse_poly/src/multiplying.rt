@@ -7,8 +7,8 @@ ghost use Rattle.sparse_poly.specs.Polynomials.{products};
 ghost use Rattle.sparse_poly.specs.Standing.{Agree, Stands, AllMonomials, IsDescending, IsAdded};
 
 use crate::entry::Share;
-use crate::merging::{merge, sorted};
 use crate::layout::{is_laid, layout_for, without_layout};
+use crate::merging::{merge, sorted};
 use crate::packing::{packed_combination, packed_multiplication};
 use crate::squeezing::squeeze;
 use crate::{PolyFault, Term};

@@ -1,7 +1,6 @@
-use Rattle.std.proofs.Common.{arith, rules, subst, sym, ap, ◌∙◌, ◌≡◌, ◌<◌, ◌≤◌, ◌-◌, ◌+◌, ◌*◌, ◌^◌, [], ◌∷◌, List, ℕ, length}
-use Rattle.std.specs.declared.option.Option.{Option}
-use Rattle.std.specs.declared.option.Option.TheVariants.{None, Some}
-use Rattle.monomial.specs.Layouts.{lane, lanes, FitsLayout}
+use Rattle.std.proofs.Common.{arith, rules, subst, sym, ap, ◌∙◌, ◌≡◌, ◌<◌, ◌≤◌, ◌-◌, ◌+◌, ◌*◌, ◌^◌, [], ◌∷◌, List, ℕ}
+use Rattle.std.specs.declared.option.Option.TheVariants.{None}
+use Rattle.monomial.specs.Layouts.{lane, lanes}
 use Rattle.monomial.specs.Readings.{left_powers}
 use Rattle.monomial.proofs.Lanes.{lanes_first, lanes_end}
 use Rattle.monomial.proofs.Placings.{pending, Placing, next_pending, not_pending, Placing-start, Placing-shifted, Placing-none, Placing-lower, Placing-same, Placing-in_range, Placing-above, Placing-high, Placing-left, Placing-end}

@@ -1,4 +1,4 @@
-use Rattle.std.proofs.Common.{subst, sym, ap, ◌∙◌, ◌≡◌}
+use Rattle.std.proofs.Common.{subst, sym, ap, ◌∙◌}
 use Rattle.monomial.specs.Monomials.{IsMonomial}
 use Rattle.monomial.specs.Layouts.{monomial_of}
 use Rattle.monomial.proofs.Words.{fitting_monomial}

@@ -1,4 +1,4 @@
-use Rattle.std.proofs.Common.{arith, rules, refl, subst, sym, ◌≡◌, ◌<◌, ◌≤◌, ◌-◌}
+use Rattle.std.proofs.Common.{arith, refl, subst, ◌≡◌, ◌<◌, ◌-◌}
 use Rattle.monomial.specs.Layouts.{lane, lanes, AreFalling}
 use Rattle.monomial.proofs.Lanes.{falling_one, falling_more, lanes_fall}
 use Rattle.monomial.proofs.layout.are_falling.Goals as goal

@@ -1,4 +1,4 @@
-use Rattle.std.proofs.Common.{arith, rules}
+use Rattle.std.proofs.Common.{arith}
 use Rattle.sparse_poly.proofs.PackedTerms.{AllFit-more, AllFit-end}
 use Rattle.sparse_poly.proofs.layout.all_fit.Goals as goal
 

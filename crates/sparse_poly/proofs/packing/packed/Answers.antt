@@ -1,4 +1,4 @@
-use Rattle.std.proofs.Common.{rules, arith, ◌≡◌, ◌<◌, ◌^◌, to_z, of_z}
+use Rattle.std.proofs.Common.{rules, arith, ◌≡◌, to_z, of_z}
 use Rattle.std.specs.Int.{w128}
 use Rattle.monomial.specs.Monomials.{IsMonomial}
 use Rattle.monomial.proofs.Words.{word_small}

@@ -1,4 +1,4 @@
-use Rattle.std.proofs.Common.{arith, rules, sym, ap, subst, ◌∙◌, ◌≡◌, ◌≢◌, ◌<◌, ◌≤◌, ◌-◌, ◌+◌, ℕ}
+use Rattle.std.proofs.Common.{arith, sym, ap, subst, ◌∙◌, ◌≡◌, ◌≢◌, ◌<◌, ◌-◌, ◌+◌, ℕ}
 use Rattle.monomial.specs.Monomials.{exponent}
 use Rattle.monomial.specs.Layouts.{lane, lanes, monomial_of, AreFalling}
 use Rattle.monomial.proofs.Lanes.{exponent_own, exponent_other, falling_less, lanes_none}

@@ -1,4 +1,4 @@
-use Rattle.std.proofs.Common.{arith, rules, sym, ap, subst, append_assoc, ◌∙◌, ◌≡◌, ◌<◌, ◌≤◌, ◌-◌, ◌+◌, ◌++◌, [], ◌∷◌, ℕ, List, length, map, refl}
+use Rattle.std.proofs.Common.{arith, sym, ap, subst, append_assoc, ◌∙◌, ◌≡◌, ◌<◌, ◌≤◌, ◌-◌, ◌+◌, ◌++◌, [], ◌∷◌, ℕ, List, length, map, refl}
 use Rattle.std.proofs.lemmas.List.{map-append}
 use Rattle.monomial.specs.declared.keys.Key.{Key}
 use Rattle.monomial.specs.Keys.{power_of}

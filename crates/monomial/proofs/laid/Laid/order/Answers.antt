@@ -1,6 +1,4 @@
-use Rattle.std.proofs.Common.{arith, rules, sym, ap, subst, ◌∙◌, ◌≡◌, ◌<◌, ◌*◌, ◌^◌, length}
-use Rattle.monomial.specs.Monomials.{monomial_cmp}
-use Rattle.monomial.specs.Layouts.{monomial_of}
+use Rattle.std.proofs.Common.{sym, ap, subst, ◌∙◌, ◌≡◌, ◌<◌, ◌*◌, ◌^◌, length}
 use Rattle.monomial.proofs.Words.{monomial_order}
 use Rattle.monomial.proofs.laid.Laid.order.Goals as goal
 

@@ -1,5 +1,5 @@
-use Rattle.std.proofs.Common.{arith, rules, sym, ap, subst, ◌∙◌, ◌≡◌, ◌<◌, ◌≤◌, ◌*◌, ◌%◌, ◌^◌, length, ℕ}
-use Rattle.monomial.specs.Layouts.{lane, monomial_of, word_of, FitsLayout, IsWordIn}
+use Rattle.std.proofs.Common.{arith, sym, ap, subst, ◌∙◌, ◌≡◌, ◌<◌, ◌≤◌, ◌*◌, ◌^◌, length, ℕ}
+use Rattle.monomial.specs.Layouts.{lane}
 use Rattle.monomial.proofs.Words.{word_of-monomial, FitsLayout-monomial, mod_small}
 use Rattle.monomial.proofs.laid.Laid.word_in.Goals as goal
 

@@ -1,6 +1,5 @@
-use Rattle.std.proofs.Common.{arith, rules, subst, sym, ap, ◌∙◌, ◌≡◌, ◌<◌, ◌≤◌, ◌-◌, length, slice_index_or}
-use Rattle.monomial.specs.Layouts.{lanes, AreFalling, IsLayout}
-use Rattle.monomial.proofs.Lanes.{Packing-start, Packing-more, Packing-bound, Packing-end, not_in_range, IsLayout-lanes}
+use Rattle.std.proofs.Common.{arith, rules, sym, ◌≡◌, slice_index_or}
+use Rattle.monomial.proofs.Lanes.{Packing-start, Packing-more}
 use Rattle.monomial.proofs.layout.Layout.new.Goals as goal
 
 pub loop-variable-init : goal.loop-variable-init
