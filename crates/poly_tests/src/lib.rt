@@ -47,3 +47,5 @@ mod monomials;
 mod polynomials;
 #[cfg(test)]
 mod units;
+#[cfg(test)]
+mod words;
