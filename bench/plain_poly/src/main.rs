@@ -1,8 +1,7 @@
 //! The work of the crate `poly_bench` in plain Rust: the same polynomials, combinations and checksum, with early sums.
 //!
-//! The arguments are those of `poly_bench`: ROUNDS TERMS SHORT VARIABLES POWERS [product]. A last word says how monomials
-//! are stored: `listed` (as without it), up to six powers in the value, which is the form of the crate `monomial`; `keyed`, up to eight powers of 32 bits
-//! in the value; `mixed`, as `keyed`, and operations in at most eight variables are done on words of eight exponents; `packed`, for at most eight
+//! The arguments are those of `poly_bench`: ROUNDS TERMS SHORT VARIABLES POWERS [product | reading]. A last word says how monomials
+//! are stored: `listed` (as without it), up to six powers in the value; `keyed`, up to eight powers of 32 bits in the value; `mixed`, as `keyed`, and operations in at most eight variables are done on words of eight exponents; `packed`, for at most eight
 //! variables, all exponents in one word throughout.
 mod monomial;
 mod poly;
@@ -40,7 +39,7 @@ struct Plan {
     short: u32,
     variables: u32,
     powers: u32,
-    product: bool,
+    operation: Operation,
     form: Form,
 }
 
@@ -77,6 +76,13 @@ fn checksum<M: Monomial>(terms: &[Term<M>]) -> u64 {
     sum
 }
 
+/// What each round makes.
+enum Operation {
+    Combination,
+    Product,
+    Reading,
+}
+
 /// The polynomial that an operation on `l`, `q`, `a` and `p` makes.
 type Made<M> = fn(&[Term<M>], &[Term<M>], &[Term<M>], &[Term<M>]) -> Result<Vec<Term<M>>, Fault>;
 
@@ -87,9 +93,17 @@ fn run<M: Monomial>(plan: &Plan, combine: Made<M>, times: Made<M>) -> Result<u64
     let l = random_poly::<M>(&mut numbers, plan, plan.short)?;
     let a = random_poly::<M>(&mut numbers, plan, plan.short)?;
     let mut sum = 0u64;
-    for _ in 0..plan.rounds {
-        let made = if plan.product { times(&l, &q, &a, &p)? } else { combine(&l, &q, &a, &p)? };
-        sum = sum.wrapping_add(checksum(&made));
+    for round in 0..plan.rounds {
+        let made = match plan.operation {
+            Operation::Combination => combine(&l, &q, &a, &p)?,
+            Operation::Product => times(&l, &q, &a, &p)?,
+            Operation::Reading => {
+                sum = sum.wrapping_add(checksum(&q));
+                continue;
+            }
+        };
+        let told = if round + 1 == plan.rounds { checksum(&made) } else { made.len() as u64 };
+        sum = sum.wrapping_add(told);
     }
     Ok(sum)
 }
@@ -102,7 +116,12 @@ fn plan(mut words: Vec<String>) -> Option<Plan> {
         _ => Form::Listed,
     };
     words.pop_if(|word| ["packed", "mixed", "keyed", "listed"].contains(&word.as_str()));
-    let product = words.pop_if(|word| word == "product").is_some();
+    let operation = match words.last().map(String::as_str) {
+        Some("product") => Operation::Product,
+        Some("reading") => Operation::Reading,
+        _ => Operation::Combination,
+    };
+    words.pop_if(|word| ["product", "reading"].contains(&word.as_str()));
     let [rounds, terms, short, variables, powers] = words.as_slice() else {
         return None;
     };
@@ -112,7 +131,7 @@ fn plan(mut words: Vec<String>) -> Option<Plan> {
         short: short.parse().ok()?,
         variables: variables.parse().ok()?,
         powers: powers.parse().ok()?,
-        product,
+        operation,
         form,
     };
     let few = plan.variables <= PACKED || !matches!(plan.form, Form::Packed);
@@ -121,7 +140,7 @@ fn plan(mut words: Vec<String>) -> Option<Plan> {
 
 fn main() -> ExitCode {
     let Some(plan) = plan(std::env::args().skip(1).collect()) else {
-        eprintln!("plain_poly: wanted: ROUNDS TERMS SHORT VARIABLES POWERS [product] [packed | mixed | keyed | listed], of which VARIABLES is at least 1, and at most 8 where packed");
+        eprintln!("plain_poly: wanted: ROUNDS TERMS SHORT VARIABLES POWERS [product | reading] [packed | mixed | keyed | listed], of which VARIABLES is at least 1, and at most 8 where packed");
         return ExitCode::from(2);
     };
     let answer = match plan.form {

@@ -62,18 +62,59 @@ fn merge<M: Monomial>(first: Vec<Share<M>>, second: Vec<Share<M>>) -> Vec<Share<
     shares
 }
 
+/// The contributions of one term.
+fn row<M: Monomial>(t: &Term<M>, us: &[Term<M>], minus: bool) -> Result<Vec<Share<M>>, Fault> {
+    let mut row = Vec::with_capacity(us.len());
+    for u in us {
+        row.push(share(t.monomial.times(&u.monomial).ok_or(Fault)?, t.coeff, u.coeff, minus));
+    }
+    Ok(row)
+}
+
+/// The contributions of two terms, merged as they are made.
+fn pair<M: Monomial>(t: &Term<M>, s: &Term<M>, us: &[Term<M>], minus: bool) -> Result<Vec<Share<M>>, Fault> {
+    let made = |t: &Term<M>, u: Option<&Term<M>>| match u {
+        Some(u) => Ok(Some(share(t.monomial.times(&u.monomial).ok_or(Fault)?, t.coeff, u.coeff, minus))),
+        None => Ok(None),
+    };
+    let mut shares = Vec::with_capacity(2 * us.len());
+    let (mut first, mut second) = (us.iter(), us.iter());
+    let (mut x, mut y) = (made(t, first.next())?, made(s, second.next())?);
+    loop {
+        match (x, y) {
+            (Some(a), Some(b)) => match a.monomial.order(&b.monomial) {
+                Ordering::Less => {
+                    shares.push(b);
+                    (x, y) = (Some(a), made(s, second.next())?);
+                }
+                Ordering::Greater => {
+                    shares.push(a);
+                    (x, y) = (made(t, first.next())?, Some(b));
+                }
+                Ordering::Equal => {
+                    shares.push(joined(a, b));
+                    (x, y) = (made(t, first.next())?, made(s, second.next())?);
+                }
+            },
+            (Some(a), None) => {
+                shares.push(a);
+                (x, y) = (made(t, first.next())?, None);
+            }
+            (None, Some(b)) => {
+                shares.push(b);
+                (x, y) = (None, made(s, second.next())?);
+            }
+            (None, None) => return Ok(shares),
+        }
+    }
+}
+
 /// The contributions to a product, by halves of the first factor.
 fn part<M: Monomial>(ts: &[Term<M>], us: &[Term<M>], minus: bool) -> Result<Vec<Share<M>>, Fault> {
     match ts {
         [] => Ok(Vec::new()),
-        [t] => {
-            let mut row = Vec::with_capacity(us.len());
-            for u in us {
-                let monomial = t.monomial.times(&u.monomial).ok_or(Fault)?;
-                row.push(share(monomial, t.coeff, u.coeff, minus));
-            }
-            Ok(row)
-        }
+        [t] => row(t, us, minus),
+        [t, s] => pair(t, s, us, minus),
         _ => {
             let (front, back) = ts.split_at(ts.len() / 2);
             Ok(merge(part(front, us, minus)?, part(back, us, minus)?))
@@ -81,9 +122,24 @@ fn part<M: Monomial>(ts: &[Term<M>], us: &[Term<M>], minus: bool) -> Result<Vec<
     }
 }
 
-fn squeeze<M>(shares: Vec<Share<M>>) -> Result<Vec<Term<M>>, Fault> {
-    let mut terms = Vec::with_capacity(shares.len());
-    for share in shares {
+/// The polynomial of two falling lists: their last merge makes the terms.
+fn squeeze<M: Monomial>(first: Vec<Share<M>>, second: Vec<Share<M>>) -> Result<Vec<Term<M>>, Fault> {
+    let mut terms = Vec::with_capacity(first.len() + second.len());
+    let mut first = first.into_iter();
+    let mut second = second.into_iter();
+    loop {
+        let share = match (first.as_slice().first(), second.as_slice().first()) {
+            (Some(x), Some(y)) => match x.monomial.order(&y.monomial) {
+                Ordering::Less => second.next(),
+                Ordering::Greater => first.next(),
+                Ordering::Equal => first.next().zip(second.next()).map(|(x, y)| joined(x, y)),
+            },
+            (Some(_), None) => first.next(),
+            (None, _) => second.next(),
+        };
+        let Some(share) = share else {
+            return Ok(terms);
+        };
         if share.weight > i128::MAX as u128 {
             return Err(Fault);
         }
@@ -91,7 +147,6 @@ fn squeeze<M>(shares: Vec<Share<M>>) -> Result<Vec<Term<M>>, Fault> {
             terms.push(Term { monomial: share.monomial, coeff: share.sum });
         }
     }
-    Ok(terms)
 }
 
 fn sorted<M: Monomial>(mut shares: Vec<Share<M>>) -> Vec<Share<M>> {
@@ -104,15 +159,16 @@ fn sorted<M: Monomial>(mut shares: Vec<Share<M>>) -> Vec<Share<M>> {
 
 /// The polynomial that contributions in any order add up to.
 pub fn from_shares<M: Monomial>(shares: Vec<Share<M>>) -> Result<Vec<Term<M>>, Fault> {
-    squeeze(sorted(shares))
+    squeeze(sorted(shares), Vec::new())
 }
 
 /// The combination `l*q - a*p`.
 pub fn combine<M: Monomial>(l: &[Term<M>], q: &[Term<M>], a: &[Term<M>], p: &[Term<M>]) -> Result<Vec<Term<M>>, Fault> {
-    squeeze(merge(part(l, q, false)?, part(a, p, true)?))
+    squeeze(part(l, q, false)?, part(a, p, true)?)
 }
 
 /// The product `l*q`.
 pub fn times<M: Monomial>(l: &[Term<M>], q: &[Term<M>]) -> Result<Vec<Term<M>>, Fault> {
-    squeeze(part(l, q, false)?)
+    let (front, back) = l.split_at(l.len() / 2);
+    squeeze(part(front, q, false)?, part(back, q, false)?)
 }

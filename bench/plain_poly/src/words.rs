@@ -86,9 +86,20 @@ impl Layout {
         terms.iter().map(|term| WordTerm { word: self.word(&term.monomial), coeff: term.coeff }).collect()
     }
 
-    fn squeeze(&self, shares: &[Share]) -> Result<Vec<Term<Keyed>>, Fault> {
-        let mut terms = Vec::with_capacity(shares.len());
-        for share in shares {
+    /// The polynomial of two falling lists: their last merge makes the terms.
+    fn squeeze(&self, first: &[Share], second: &[Share]) -> Result<Vec<Term<Keyed>>, Fault> {
+        let mut terms = Vec::with_capacity(first.len() + second.len());
+        let (mut i, mut j) = (0, 0);
+        while i < first.len() || j < second.len() {
+            let share = match (first.get(i), second.get(j)) {
+                (Some(x), Some(y)) if x.word == y.word => joined(*x, *y),
+                (Some(x), Some(y)) if x.word > y.word => *x,
+                (Some(x), None) => *x,
+                (_, Some(y)) => *y,
+                (None, None) => break,
+            };
+            i += usize::from(first.get(i).is_some_and(|x| x.word == share.word));
+            j += usize::from(second.get(j).is_some_and(|y| y.word == share.word));
             if share.weight > i128::MAX as u128 {
                 return Err(Fault);
             }
@@ -145,11 +156,35 @@ fn merge(first: &[Share], second: &[Share]) -> Vec<Share> {
     shares
 }
 
+/// The contributions of two terms, merged as they are made.
+fn pair(t: &WordTerm, s: &WordTerm, us: &[WordTerm], minus: bool) -> Vec<Share> {
+    let mut shares = Vec::with_capacity(2 * us.len());
+    let (mut i, mut j) = (0, 0);
+    while i < us.len() && j < us.len() {
+        let (x, y) = (t.word + us[i].word, s.word + us[j].word);
+        if x > y {
+            shares.push(share(t, &us[i], minus));
+            i += 1;
+        } else if x < y {
+            shares.push(share(s, &us[j], minus));
+            j += 1;
+        } else {
+            shares.push(joined(share(t, &us[i], minus), share(s, &us[j], minus)));
+            i += 1;
+            j += 1;
+        }
+    }
+    shares.extend(us[i..].iter().map(|u| share(t, u, minus)));
+    shares.extend(us[j..].iter().map(|u| share(s, u, minus)));
+    shares
+}
+
 /// The contributions to a product, by halves of the first factor.
 fn part(ts: &[WordTerm], us: &[WordTerm], minus: bool) -> Vec<Share> {
     match ts {
         [] => Vec::new(),
         [t] => us.iter().map(|u| share(t, u, minus)).collect(),
+        [t, s] => pair(t, s, us, minus),
         _ => {
             let (front, back) = ts.split_at(ts.len() / 2);
             merge(&part(front, us, minus), &part(back, us, minus))
@@ -173,7 +208,7 @@ pub fn combine(l: &[Term<Keyed>], q: &[Term<Keyed>], a: &[Term<Keyed>], p: &[Ter
     };
     let first = part(&layout.words(l), &layout.words(q), false);
     let second = part(&layout.words(a), &layout.words(p), true);
-    layout.squeeze(&merge(&first, &second))
+    layout.squeeze(&first, &second)
 }
 
 /// The product `l*q`.
@@ -184,5 +219,7 @@ pub fn times(l: &[Term<Keyed>], q: &[Term<Keyed>]) -> Result<Vec<Term<Keyed>>, F
     let Some(layout) = Layout::of(&[l, q]) else {
         return poly::times(l, q);
     };
-    layout.squeeze(&part(&layout.words(l), &layout.words(q), false))
+    let (l, q) = (layout.words(l), layout.words(q));
+    let (front, back) = l.split_at(l.len() / 2);
+    layout.squeeze(&part(front, &q, false), &part(back, &q, false))
 }

@@ -2,7 +2,8 @@
 //!
 //! The arguments are ROUNDS TERMS SHORT VARIABLES POWERS, five numbers. Polynomials `q` and `p` are added up from TERMS terms each, and `l` and `a`
 //! from SHORT terms each. A term is the product of POWERS random powers of the variables below VARIABLES, times a number from 1 to 9. Each round makes
-//! `l*q - a*p`, or the product `l*q` where a sixth word `product` is given.
+//! `l*q - a*p`, or the product `l*q` where a sixth word `product` is given, and adds the number of its terms; the last round adds a number that
+//! depends on each power and coefficient. With the sixth word `reading` each round adds that number of `q`.
 #![tactic(auto)]
 
 mod making;
@@ -19,6 +20,7 @@ use std::{env, io};
 enum Operation {
     Combination,
     Product,
+    Reading,
 }
 
 /// What a run is asked for.
@@ -89,7 +91,7 @@ fn main(rt: HostRuntime) -> io::Result<ExitCode> {
 fn told(fault: &Fault) -> &'static str {
     match fault {
         Fault::Usage =>
-            "wanted: ROUNDS TERMS SHORT VARIABLES POWERS [product], of which VARIABLES is at least 1",
+            "wanted: ROUNDS TERMS SHORT VARIABLES POWERS [product | reading], of which VARIABLES is at least 1",
         Fault::Range => "an exponent or a coefficient is out of range",
         Fault::OutOfMemory => "out of memory",
     }
@@ -114,6 +116,7 @@ fn answer(rt: &HostRuntime) -> Result<u64, Fault> {
 fn read_plan(words: &[String]) -> Option<Plan> {
     let (numbers, operation) = match words {
         [numbers @ .., last] if last.as_str() == "product" => (numbers, Operation::Product),
+        [numbers @ .., last] if last.as_str() == "reading" => (numbers, Operation::Reading),
         numbers => (numbers, Operation::Combination),
     };
     let [rounds, terms, short, variables, powers] = numbers else {
@@ -153,12 +156,21 @@ fn run(alloc: Global, plan: &Plan) -> Result<u64, Fault> {
     let l = random_poly(alloc, &mut numbers, &plan.short)?;
     let a = random_poly(alloc, &mut numbers, &plan.short)?;
     let mut sum = 0u64;
-    for _ in 0..plan.rounds {
+    for round in 0..plan.rounds {
         let made = match plan.operation {
             Operation::Combination => Poly::combine(alloc, &l, &q, &a, &p)?,
             Operation::Product => l.times(&q)?,
+            Operation::Reading => {
+                sum = sum.wrapping_add(checksum(&q));
+                continue;
+            }
         };
-        sum = sum.wrapping_add(checksum(&made));
+        let told = if plan.rounds - round == 1 {
+            checksum(&made)
+        } else {
+            made.terms().len() as u64
+        };
+        sum = sum.wrapping_add(told);
     }
     Ok(sum)
 }
