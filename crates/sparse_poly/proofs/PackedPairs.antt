@@ -6,14 +6,17 @@ use Rattle.sparse_poly.specs.declared.packed_entry.PackedTerm.{PackedTerm}
 use Rattle.sparse_poly.specs.declared.packed_entry.PackedShare.{PackedShare}
 use Rattle.sparse_poly.specs.Contributions.{signed}
 use Rattle.sparse_poly.specs.Standing.{Agree}
-use Rattle.sparse_poly.specs.Packed.{term_words, share_words, raised, IsPackedRow, IsRowAdded, IsPackedProduct, IsPackedMerge}
+use Rattle.sparse_poly.specs.Packed.{term_words, share_words, raised, row_share, IsPackedRow, IsRowAdded, IsPackedProduct, IsPackedMerge}
 use Rattle.sparse_poly.proofs.Places.{drop_end}
-use Rattle.sparse_poly.proofs.Packings.{drop_at, merge_first, merge_second, merge_both, merge_rest, row_more, product_one, product_halves}
+use Rattle.sparse_poly.proofs.Packings.{drop_at, merge_first, merge_second, merge_both, merge_rest, row_share_word, row_share_sum, row_more, product_one, product_halves}
 
 -- s is the share of the contribution of two terms
 pub record IsShareOf (minus : Bool) (t u : PackedTerm) (s : PackedShare) : Type 0 where
   pub word : s.word ≡ t.word + u.word
   pub sum : Agree s.weight s.sum (unsigned_abs (signed minus (t.coeff *ℤ u.coeff))) (signed minus (t.coeff *ℤ u.coeff))
+
+pub IsShareOf-row_share : (minus : Bool) (t u : PackedTerm) (s : PackedShare) → s ≡ row_share minus t u → IsShareOf minus t u s
+IsShareOf-row_share minus t u s e = record { word = row_share_word minus t u s e; sum = row_share_sum minus t u s e }
 
 -- zs is the merge of a row of t and a row of s
 pub record IsPackedPair (minus : Bool) (t s : PackedTerm) (xs ys : List PackedTerm) (zs : List PackedShare) : Type 0 where

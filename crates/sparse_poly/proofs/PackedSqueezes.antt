@@ -11,7 +11,7 @@ use Rattle.sparse_poly.specs.Packed.{share_read, shares_read, share_words, AllUn
 use Rattle.sparse_poly.proofs.Descending.{below_more}
 use Rattle.sparse_poly.proofs.Places.{drop_end}
 use Rattle.sparse_poly.proofs.Merges.{IsNext-first, IsNext-second, IsNext-both}
-use Rattle.sparse_poly.proofs.Packings.{drop_at}
+use Rattle.sparse_poly.proofs.Packings.{drop_at, read_any}
 use Rattle.monomial.proofs.Words.{lower_monomial}
 
 word_under : (n : ℕ) (xs : List PackedShare) (k : ℕ) (x : PackedShare) → k < length xs → x ≡ slice_index_or xs k x → AllUnder n (share_words xs) → x.word < n
@@ -27,9 +27,11 @@ pub IsBehind-end : (xs : List PackedShare) (i : ℕ) (y : PackedShare) → lengt
 unfolding IsBehind
 IsBehind-end xs i y h = inl h
 
-pub IsBehind-lower : (xs : List PackedShare) (i : ℕ) (x y : PackedShare) → i < length xs → x ≡ slice_index_or xs i x → x.word < y.word → IsBehind xs i y
+pub IsBehind-lower : (xs : List PackedShare) (i : ℕ) (w : ℕ) (y : PackedShare) → i < length xs → ((x : PackedShare) → x ≡ slice_index_or xs i x → w ≡ x.word) → w < y.word → IsBehind xs i y
 unfolding IsBehind
-IsBehind-lower xs i x y h e l = inr (x, h, e, l)
+IsBehind-lower xs i w y h f l =
+    let same = read_any xs i y h in
+    inr (slice_index_or xs i y, h, same, subst (λ n. n < y.word) (f (slice_index_or xs i y) same) l)
 
 below_rest : (vs : List ℕ) (xs : List PackedShare) (i : ℕ) (y : PackedShare) → IsLayout vs → y.word < 2 ^ (16 * length vs) → IsBehind xs i y → IsDescending (shares_read (monomial_of vs) (drop i xs)) → AllBelow (monomial_of vs y.word) (shares_read (monomial_of vs) (drop i xs))
 unfolding IsBehind

@@ -20,12 +20,12 @@ use Rattle.sparse_poly.specs.Contributions.{signed_products, higher, degree_of, 
 use Rattle.sparse_poly.specs.Standing.{Stands, AllBelow, IsDescending}
 use Rattle.sparse_poly.specs.Packing.{AllFit}
 use Rattle.monomial.specs.Layouts.{AreFalling, IsLayout, word_of, monomial_of, FitsLayout}
-use Rattle.sparse_poly.specs.Packed.{term_read, terms_read, shares_read, term_words, share_words, AreProducts, AllPackedIn, IsPackedIn, AllUnder, AllHalves, AreOrdered, IsPackedProduct}
+use Rattle.sparse_poly.specs.Packed.{term_read, terms_read, shares_read, term_words, share_words, AreProducts, AllPackedIn, IsPackedIn, AllUnder, AllHalves, row_shares, AreOrdered, IsPackedProduct}
 use Rattle.sparse_poly.proofs.Adding.{degree_of-append}
-use Rattle.sparse_poly.proofs.Descending.{all_map, all_more}
+use Rattle.sparse_poly.proofs.Descending.{all_map, all_more, all_front, all_back}
 use Rattle.monomial.proofs.Words.{word_of-times, word_half, monomial_of-word, IsPowers-monomial_of, IsMonomial-monomial_of, lower_monomial, fits_small, fits_known, fitting_monomial}
 use Rattle.sparse_poly.proofs.Places.{take_more, take_all}
-use Rattle.sparse_poly.proofs.Packings.{terms_read-append, halves_sums}
+use Rattle.sparse_poly.proofs.Packings.{terms_read-append, halves_sums, product_none, product_shares}
 
 -- the first k terms, packed
 pub record PackedSoFar (vs : List ℕ) (ts : List Term) (k : ℕ) (out : List PackedTerm) : Type 0 where
@@ -159,6 +159,30 @@ module _ (vs : List ℕ) (minus : Bool) (ts us : List Term) (ps qs : List Packed
 
   pub product_degree : degree_of (signed_products minus ts us) ≡ None
   product_degree = subst (λ xs. degree_of (signed_products minus xs us) ≡ None) e (subst (λ xs. degree_of (signed_products minus (terms_read (monomial_of vs) ps) xs) ≡ None) f (degree_of-signed minus _ _ (degree_of-products vs ps qs y a b)))
+
+-- two lists of shares that add up to a product
+pub record AreHalves (vs : List ℕ) (ts us : List Term) (fs bs : List PackedShare) : Type 0 where
+  pub first : AreOrdered vs fs
+  pub second : AreOrdered vs bs
+  pub stands : Stands (shares_read (monomial_of vs) fs ++ shares_read (monomial_of vs) bs) (products ts us)
+  pub degree : degree_of (products ts us) ≡ None
+
+module _ (vs : List ℕ) (ts us : List Term) (ps qs : List PackedTerm) (y : IsLayout vs) (e : terms_read (monomial_of vs) ps ≡ ts) (f : terms_read (monomial_of vs) qs ≡ us) (a : AllPackedIn vs ps) (b : AllPackedIn vs qs) (h : IsFalling us) where
+  pub AreHalves-made : (xs zs : List PackedTerm) (fs bs : List PackedShare) → ps ≡ xs ++ zs → IsPackedProduct false xs qs fs → IsPackedProduct false zs qs bs → AreHalves vs ts us fs bs
+  AreHalves-made xs zs fs bs s g i =
+      let both : AllPackedIn vs (xs ++ zs) = subst (AllPackedIn vs) s a in
+      record {
+        first = AreOrdered-product vs false us xs qs fs y f (all_front (λ (t : PackedTerm). IsPackedIn vs t) xs zs both) b h g;
+        second = AreOrdered-product vs false us zs qs bs y f (all_back (λ (t : PackedTerm). IsPackedIn vs t) xs zs both) b h i;
+        stands = halves_stand vs false ts us ps qs y e f a b xs zs fs bs s g i;
+        degree = product_degree vs false ts us ps qs y e f a b;
+      }
+
+  pub AreHalves-one : (t : PackedTerm) (fs bs : List PackedShare) → ps ≡ t ∷ [] → fs ≡ row_shares false t qs → bs ≡ [] → AreHalves vs ts us fs bs
+  AreHalves-one t fs bs s g i = AreHalves-made (t ∷ []) [] fs bs s (subst (IsPackedProduct false (t ∷ []) qs) (sym g) (product_shares false t qs)) (subst (IsPackedProduct false [] qs) (sym i) (product_none false [] qs refl))
+
+  pub AreHalves-two : (t u : PackedTerm) (fs bs : List PackedShare) → ps ≡ t ∷ u ∷ [] → fs ≡ row_shares false t qs → bs ≡ row_shares false u qs → AreHalves vs ts us fs bs
+  AreHalves-two t u fs bs s g i = AreHalves-made (t ∷ []) (u ∷ []) fs bs s (subst (IsPackedProduct false (t ∷ []) qs) (sym g) (product_shares false t qs)) (subst (IsPackedProduct false (u ∷ []) qs) (sym i) (product_shares false u qs))
 
 -- falling words are read as falling monomials
 pub IsDescending-read : (vs : List ℕ) (ss : List PackedShare) → IsLayout vs → AreFalling (share_words ss) → AllUnder (2 ^ (16 * length vs)) (share_words ss) → IsDescending (shares_read (monomial_of vs) ss)

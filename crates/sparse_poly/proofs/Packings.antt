@@ -5,19 +5,20 @@ use Rattle.std.proofs.Common.{arith, sym, ◌∙◌, ap, subst, append_assoc}
 use Rattle.std.proofs.lemmas.Int.{ints}
 use Rattle.std.proofs.lemmas.List.{take-append-drop}
 use Rattle.std.proofs.lemmas.Slice.{between_to_end}
+use Rattle.std.specs.Coded.{le_prop}
 use Rattle.std.specs.Ordering.{is_eq}
 use Rattle.monomial.specs.Monomials.{monomial_cmp, monomial_times}
 use Rattle.sparse_poly.specs.declared.Term.{Term}
 use Rattle.sparse_poly.specs.declared.entry.Share.{Share}
 use Rattle.sparse_poly.specs.declared.packed_entry.PackedTerm.{PackedTerm}
 use Rattle.sparse_poly.specs.declared.packed_entry.PackedShare.{PackedShare}
-use Rattle.sparse_poly.specs.Contributions.{signed, signed_row, signed_products}
+use Rattle.sparse_poly.specs.Contributions.{signed, kept, signed_row, signed_products}
 use Rattle.sparse_poly.specs.Standing.{ssum, sweight, Agree, Stands}
 use Rattle.monomial.specs.Layouts.{AreFalling}
-use Rattle.sparse_poly.specs.Packed.{Reading, term_read, terms_read, share_read, shares_read, term_words, share_words, AreProducts, AllUnder, AllHalves, raised, IsPackedRow, IsRowAdded, IsPackedProduct, IsPackedMerge}
+use Rattle.sparse_poly.specs.Packed.{Reading, term_read, terms_read, share_read, shares_read, term_words, share_words, AreProducts, AllUnder, AllHalves, raised, row_share, row_shares, IsPackedRow, IsRowAdded, IsPackedProduct, IsPackedMerge}
 use Rattle.sparse_poly.proofs.Evaluation.{zero_plus}
 use Rattle.sparse_poly.proofs.Adding.{signed_products-append, signed_products-one}
-use Rattle.sparse_poly.proofs.Standings.{agree_plus, agree_through, same_agrees, Stands-both, Stands-append, no_products}
+use Rattle.sparse_poly.proofs.Standings.{agree_kept, agree_plus, agree_through, same_agrees, Stands-both, Stands-append, no_products}
 use Rattle.sparse_poly.proofs.Descending.{all_front, all_back, all_map}
 use Rattle.sparse_poly.proofs.Places.{drop_one, drop_end}
 
@@ -29,6 +30,12 @@ pub same_read : {X : Type 0} → (xs : List X) (k : ℕ) (x y : X) → k < lengt
 same_read [] k x y h e f = absurd (omega arith)
 same_read (z ∷ zs) zero x y h e f = e ∙ sym f
 same_read (z ∷ zs) (suc k) x y h e f = same_read zs k x y (omega arith) e f
+
+-- a read of a place gives the same for each share that stands for none
+pub read_any : {X : Type 0} → (xs : List X) (k : ℕ) (d : X) → k < length xs → slice_index_or xs k d ≡ slice_index_or xs k (slice_index_or xs k d)
+read_any [] k d h = absurd (omega arith)
+read_any (z ∷ zs) zero d h = refl
+read_any (z ∷ zs) (suc k) d h = read_any zs k d (omega arith)
 
 -- merges
 merge_none : (ys : List PackedShare) → IsPackedMerge [] ys ys
@@ -201,6 +208,43 @@ row_more minus t u us s ss e a g = record {
     more false r f a st = Stands-cons (share_read r s) _ _ _ f a st
     more true r f a st = Stands-cons (share_read r s) _ _ _ f a st
 
+-- the share of a contribution
+share_from : (w : ℕ) (z : ℤ) (v : ℕ) → unsigned_abs z ≤ v → PackedShare
+share_from w z v h = record { word = w; sum = z; weight = v; within = h }
+
+same_share : (w a : ℕ) (z b : ℤ) (v c : ℕ) (h : unsigned_abs z ≤ v) (k : unsigned_abs b ≤ c) → w ≡ a → z ≡ b → v ≡ c → share_from w z v h ≡ share_from a b c k
+same_share w a z b v c h k e f g =
+    subst (λ n. share_from w z v h ≡ share_from n b c k) e
+    (subst (λ y. (i : unsigned_abs y ≤ c) → share_from w z v h ≡ share_from w y c i) f
+    (subst (λ n. (i : unsigned_abs z ≤ n) → share_from w z v h ≡ share_from w z n i) g (λ i. ap (share_from w z v) (le_prop h i))) k)
+
+pub is_row_share : (minus : Bool) (t u : PackedTerm) (s : PackedShare) → s.word ≡ t.word + u.word → s.sum ≡ kept (signed minus (t.coeff *ℤ u.coeff)) → s.weight ≡ unsigned_abs (kept (signed minus (t.coeff *ℤ u.coeff))) → s ≡ row_share minus t u
+unfolding share_from
+is_row_share minus t u s e f g = same_share s.word (t.word + u.word) s.sum _ s.weight _ s.within (row_share minus t u).within e f g
+
+pub row_share_word : (minus : Bool) (t u : PackedTerm) (s : PackedShare) → s ≡ row_share minus t u → s.word ≡ t.word + u.word
+row_share_word minus t u s e = ap (λ (x : PackedShare). x.word) e
+
+pub row_share_sum : (minus : Bool) (t u : PackedTerm) (s : PackedShare) → s ≡ row_share minus t u → Agree s.weight s.sum (unsigned_abs (signed minus (t.coeff *ℤ u.coeff))) (signed minus (t.coeff *ℤ u.coeff))
+row_share_sum minus t u s e = subst (λ (x : PackedShare). Agree x.weight x.sum (unsigned_abs (signed minus (t.coeff *ℤ u.coeff))) (signed minus (t.coeff *ℤ u.coeff))) (sym e) (agree_kept (signed minus (t.coeff *ℤ u.coeff)))
+
+-- the shares of one term, as a list
+pub row_shares-length : (minus : Bool) (t : PackedTerm) (us : List PackedTerm) → length (row_shares minus t us) ≡ length us
+row_shares-length minus t [] = refl
+row_shares-length minus t (u ∷ us) = ap suc (row_shares-length minus t us)
+
+pub row_shares-read : (minus : Bool) (t : PackedTerm) (us : List PackedTerm) (k : ℕ) (u : PackedTerm) (s : PackedShare) → k < length us → u ≡ slice_index_or us k u → slice_index_or (row_shares minus t us) k s ≡ row_share minus t u
+row_shares-read minus t [] k u s h e = absurd (omega arith)
+row_shares-read minus t (x ∷ us) zero u s h e = ap (row_share minus t) (sym e)
+row_shares-read minus t (x ∷ us) (suc k) u s h e = row_shares-read minus t us k u s (omega arith) e
+
+pub row_shares-place : (minus : Bool) (t : PackedTerm) (us : List PackedTerm) (k : ℕ) → k < length (row_shares minus t us) → k < length us
+row_shares-place minus t us k h = subst (λ n. k < n) (row_shares-length minus t us) h
+
+row_shares-row : (minus : Bool) (t : PackedTerm) (us : List PackedTerm) → IsPackedRow minus t us (row_shares minus t us)
+row_shares-row minus t [] = row_none minus t
+row_shares-row minus t (u ∷ us) = row_more minus t u us (row_share minus t u) (row_shares minus t us) refl (agree_kept (signed minus (t.coeff *ℤ u.coeff))) (row_shares-row minus t us)
+
 -- how far a row has come: with any row of what is left it makes one of all
 pub RowAdding : Bool → PackedTerm → List PackedTerm → List PackedShare → ℕ → List PackedShare → Type 0
 RowAdding minus t us old k out = (zs : List PackedShare) → IsPackedRow minus t (drop k us) zs → IsRowAdded minus t us old (out ++ zs)
@@ -240,6 +284,9 @@ product_one minus t us ss g = record {
   where
     whole : (n w : ℕ) → w + w < n → w + (n - w) ≡ n
     whole n w h = omega arith
+
+pub product_shares : (minus : Bool) (t : PackedTerm) (us : List PackedTerm) → IsPackedProduct minus (t ∷ []) us (row_shares minus t us)
+product_shares minus t us = product_one minus t us (row_shares minus t us) (row_shares-row minus t us)
 
 pub alone : (ts : List PackedTerm) (t : PackedTerm) → length ts ≡ 1 → t ≡ slice_index_or ts 0 t → ts ≡ t ∷ []
 alone [] t e f = absurd (omega arith)

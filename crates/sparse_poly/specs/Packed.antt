@@ -1,5 +1,6 @@
 -- Packed terms and shares, and what they stand for where each word is read as a monomial.
-use Rattle.std.specs.Prelude.{◌≡◌, ◌<◌, ◌≤◌, ℕ, ◌+◌, ◌-◌, ◌*◌, ◌^◌, Bool, List, [], ◌∷◌, ◌++◌, length, drop}
+use Rattle.std.specs.Prelude.{◌≡◌, ◌<◌, ◌≤◌, ℕ, ◌+◌, ◌-◌, ◌*◌, ◌^◌, Bool, ◌*ℤ◌, unsigned_abs, List, [], ◌∷◌, ◌++◌, length, drop}
+use Rattle.std.proofs.Common.{le_refl}
 use Rattle.std.specs.declared.option.Option.{Option}
 use Rattle.std.specs.declared.option.Option.TheVariants.{None, Some}
 use Rattle.std.specs.List.{AllByRecursion}
@@ -8,7 +9,7 @@ use Rattle.sparse_poly.specs.declared.Term.{Term}
 use Rattle.sparse_poly.specs.declared.entry.Share.{Share}
 use Rattle.sparse_poly.specs.declared.packed_entry.PackedTerm.{PackedTerm}
 use Rattle.sparse_poly.specs.declared.packed_entry.PackedShare.{PackedShare}
-use Rattle.sparse_poly.specs.Contributions.{signed_row, signed_products}
+use Rattle.sparse_poly.specs.Contributions.{signed, kept, signed_row, signed_products}
 use Rattle.sparse_poly.specs.Standing.{Stands, StandsForBoth, IsTaken}
 use Rattle.monomial.specs.Layouts.{AreFalling, IsLayout, word_of, monomial_of, FitsLayout}
 
@@ -62,6 +63,15 @@ AllHalves n ws = AllByRecursion (λ w. w + w < n) ws
 abbrev pub raised : ℕ → List ℕ → List ℕ
 raised w [] = []
 raised w (v ∷ vs) = (w + v) ∷ raised w vs
+
+-- the share of the contribution of two terms, with its sum as it is kept
+abbrev pub row_share : Bool → PackedTerm → PackedTerm → PackedShare
+row_share minus t u = record { word = t.word + u.word; sum = kept (signed minus (t.coeff *ℤ u.coeff)); weight = unsigned_abs (kept (signed minus (t.coeff *ℤ u.coeff))); within = le_refl (unsigned_abs (kept (signed minus (t.coeff *ℤ u.coeff)))) }
+
+-- the shares of one term, in the order of the others
+abbrev pub row_shares : Bool → PackedTerm → List PackedTerm → List PackedShare
+row_shares minus t [] = []
+row_shares minus t (u ∷ us) = row_share minus t u ∷ row_shares minus t us
 
 -- the contributions of one term, in the order of the terms
 pub record IsPackedRow (minus : Bool) (t : PackedTerm) (us : List PackedTerm) (ss : List PackedShare) : Type 0 where

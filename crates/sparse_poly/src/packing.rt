@@ -1,13 +1,14 @@
 //! Products of polynomials whose monomials are words.
-ghost use Rattle.std.specs.Prelude.{◌≡◌, ◌≤◌, ◌+◌, ◌+ℤ◌, ◌*ℤ◌, [], ◌∷◌, ◌++◌, length, unsigned_abs, IfOk, IfSome, MatchResult};
+ghost use Rattle.std.specs.Prelude.{◌≡◌, ◌<◌, ◌≤◌, ◌+◌, ◌+ℤ◌, false, List, [], ◌∷◌, ◌++◌, length, slice_index_or, IfOk, MatchResult};
 ghost use Rattle.std.specs.Vec.{vec_len, vec_capacity};
 ghost use Rattle.std.specs.declared.option.Option.TheVariants.{None};
-ghost use Rattle.sparse_poly.specs.Contributions.{signed, degree_of, signed_products, contributions, IsPoly, IsResult, IsFault};
+ghost use Rattle.sparse_poly.specs.declared.packed_entry.PackedShare.{PackedShare};
+ghost use Rattle.sparse_poly.specs.Contributions.{degree_of, signed_products, contributions, IsPoly, IsResult, IsFault};
 ghost use Rattle.sparse_poly.specs.Polynomials.{products};
 ghost use Rattle.sparse_poly.specs.Standing.{Agree, Stands, IsLightSum, IsHeavyFault};
 ghost use Rattle.sparse_poly.specs.Packing.{AllFit};
 ghost use Rattle.monomial.specs.Layouts.{monomial_of, IsLayout};
-ghost use Rattle.sparse_poly.specs.Packed.{terms_read, shares_read, AllPackedIn, AreOrdered, IsPackedNext, IsRowAdded, IsPackedProduct, IsPackedMerge};
+ghost use Rattle.sparse_poly.specs.Packed.{terms_read, shares_read, row_share, row_shares, AllPackedIn, AreOrdered, IsPackedNext, IsRowAdded, IsPackedProduct, IsPackedMerge};
 
 use crate::multiplying::kept_product;
 use crate::packed_entry::{PackedShare, PackedTerm};
@@ -17,6 +18,84 @@ use crate::{PolyFault, Term};
 use monomial::{Layout, Monomial};
 use std::alloc::{AllocError, Global};
 use std::cmp::Ordering;
+
+/// A list of shares, stored or made as it is read.
+trait ShareList {
+    /// The shares.
+    ghost listed: { Self → List PackedShare };
+
+    /// How many shares there are.
+    fn count(&self) -> usize
+        ensures { result ≡ length (listed self.now) };
+
+    /// The word of a share.
+    fn word_at(&self, place: usize) -> u128
+        requires { place < length (listed self.now) }
+        ensures { (s : PackedShare) → s ≡ slice_index_or (listed self.now) place s → result ≡ s.word };
+
+    /// A share.
+    fn share_at(&self, place: usize) -> PackedShare
+        requires { place < length (listed self.now) }
+        ensures { result ≡ slice_index_or (listed self.now) place result };
+}
+
+// Shares that are stored.
+#[derive(Clone, Copy)]
+struct StoredShares<'a> {
+    stored: &'a [PackedShare],
+}
+
+impl<'a> ShareList for StoredShares<'a> {
+    ghost listed = { λ l. l.stored.now };
+
+    #[inline(always)]
+    fn count(&self) -> usize {
+        self.stored.len()
+    }
+
+    #[inline(always)]
+    fn word_at(&self, place: usize) -> u128 {
+        self.stored[place].word
+    }
+
+    #[inline(always)]
+    fn share_at(&self, place: usize) -> PackedShare {
+        self.stored[place]
+    }
+}
+
+// The contributions of one term, made as they are read.
+#[derive(Clone, Copy)]
+struct TermRow<'a> {
+    term: PackedTerm,
+    others: &'a [PackedTerm],
+}
+
+impl<'a> ShareList for TermRow<'a> {
+    ghost listed = { λ l. row_shares false l.term l.others.now };
+
+    #[inline(always)]
+    fn count(&self) -> usize {
+        self.others.len()
+    }
+
+    #[inline(always)]
+    fn word_at(&self, place: usize) -> u128 {
+        self.term.word + self.others[place].word
+    }
+
+    #[inline(always)]
+    fn share_at(&self, place: usize) -> PackedShare {
+        share_of(self.term, self.others[place], false)
+    }
+}
+
+// The contributions of one term, not made yet.
+fn row<'a>(term: PackedTerm, others: &'a [PackedTerm]) -> TermRow<'a>
+    ensures { ⟦<TermRow<'static> as ShareList>⟧.listed result ≡ row_shares false term others.now }
+{
+    TermRow { term, others }
+}
 
 /// The terms of `l*q - a*p`, by words.
 pub fn packed_combination(
@@ -40,6 +119,8 @@ pub fn packed_combination(
 {
     let first = packed_product(alloc, layout, l, q, false)?;
     let second = packed_product(alloc, layout, a, p, true)?;
+    let first = StoredShares { stored: &first };
+    let second = StoredShares { stored: &second };
     squeeze(alloc, layout, &first, &second)
 }
 
@@ -59,9 +140,21 @@ pub fn packed_multiplication(
 {
     let ts = packed(alloc, layout, l)?;
     let us = packed(alloc, layout, q)?;
+    if ts.len() == 1 {
+        let first = row(ts[0], &us);
+        let second = row(ts[0], &[]);
+        return squeeze(alloc, layout, &first, &second);
+    }
+    if ts.len() == 2 {
+        let first = row(ts[0], &us);
+        let second = row(ts[1], &us);
+        return squeeze(alloc, layout, &first, &second);
+    }
     let half = ts.len() / 2;
     let first = part(alloc, &ts[..half], &us, false)?;
     let second = part(alloc, &ts[half..], &us, false)?;
+    let first = StoredShares { stored: &first };
+    let second = StoredShares { stored: &second };
     squeeze(alloc, layout, &first, &second)
 }
 
@@ -199,9 +292,9 @@ fn add_row(shares: &mut Vec<PackedShare>, t: PackedTerm, us: &[PackedTerm], minu
 }
 
 // The share of one contribution.
+#[inline(always)]
 fn share_of(t: PackedTerm, u: PackedTerm, minus: bool) -> PackedShare
-    ensures word { result.word ≡ t.word + u.word }
-    ensures sum { Agree result.weight result.sum (unsigned_abs (signed minus (t.coeff *ℤ u.coeff))) (signed minus (t.coeff *ℤ u.coeff)) }
+    ensures { result ≡ row_share minus t u }
 {
     let sum = kept_product(t.coeff, u.coeff, minus);
     PackedShare {
@@ -259,39 +352,42 @@ fn joined(x: PackedShare, y: PackedShare) -> PackedShare
 
 // Takes the greatest share that two falling lists have from these places on. The places go past it.
 #[inline(always)]
-fn next_share(
-    first: &[PackedShare],
-    second: &[PackedShare],
+fn next_share<L: ShareList>(
+    first: &L,
+    second: &L,
     i: &mut usize,
     j: &mut usize,
 ) -> Option<PackedShare>
-    ensures { IsPackedNext first.now second.now i.old j.old i.new j.new result }
+    ensures { IsPackedNext (L.listed first.now) (L.listed second.now) i.old j.old i.new j.new result }
 {
-    if *i >= first.len() {
-        if *j >= second.len() {
+    if *i >= first.count() {
+        if *j >= second.count() {
             return None;
         }
-        let y = second[*j];
+        let y = second.share_at(*j);
         *j += 1;
         return Some(y);
     }
-    let x = first[*i];
-    if *j >= second.len() {
+    if *j >= second.count() {
+        let x = first.share_at(*i);
         *i += 1;
         return Some(x);
     }
-    let y = second[*j];
-    match x.word.cmp(&y.word) {
+    match first.word_at(*i).cmp(&second.word_at(*j)) {
         Ordering::Less => {
+            let y = second.share_at(*j);
             *j += 1;
             Some(y)
         }
         Ordering::Equal => {
+            let x = first.share_at(*i);
+            let y = second.share_at(*j);
             *i += 1;
             *j += 1;
             Some(joined(x, y))
         }
         Ordering::Greater => {
+            let x = first.share_at(*i);
             *i += 1;
             Some(x)
         }
@@ -299,18 +395,18 @@ fn next_share(
 }
 
 // The sums of two falling lists of shares.
-fn squeeze(
+fn squeeze<L: ShareList>(
     alloc: Global,
     layout: &Layout,
-    first: &[PackedShare],
-    second: &[PackedShare],
+    first: &L,
+    second: &L,
 ) -> Result<Vec<Term>, PolyFault>
     requires layout { IsLayout layout.now }
-    requires first { AreOrdered layout.now first.now }
-    requires second { AreOrdered layout.now second.now }
-    ensures { MatchResult result (λ v. IsLightSum (shares_read (monomial_of layout.now) first.now ++ shares_read (monomial_of layout.now) second.now) v.items) (IsHeavyFault (shares_read (monomial_of layout.now) first.now ++ shares_read (monomial_of layout.now) second.now)) }
+    requires first { AreOrdered layout.now (L.listed first.now) }
+    requires second { AreOrdered layout.now (L.listed second.now) }
+    ensures { MatchResult result (λ v. IsLightSum (shares_read (monomial_of layout.now) (L.listed first.now) ++ shares_read (monomial_of layout.now) (L.listed second.now)) v.items) (IsHeavyFault (shares_read (monomial_of layout.now) (L.listed first.now) ++ shares_read (monomial_of layout.now) (L.listed second.now))) }
 {
-    let mut terms = Vec::with_capacity(alloc, first.len().saturating_add(second.len()))?;
+    let mut terms = Vec::with_capacity(alloc, first.count().saturating_add(second.count()))?;
     let mut i = 0;
     let mut j = 0;
     'shares: while let Some(share) = next_share(first, second, &mut i, &mut j) {

@@ -1,5 +1,5 @@
 use Rattle.std.proofs.Common.{arith}
-use Rattle.sparse_poly.proofs.Packings.{RowAdding-start, RowAdding-more, RowAdding-end}
+use Rattle.sparse_poly.proofs.Packings.{row_share_word, row_share_sum, RowAdding-start, RowAdding-more, RowAdding-end}
 use Rattle.sparse_poly.proofs.packing.add_row.Goals as goal
 
 pub loop-u-init : goal.loop-u-init
@@ -11,7 +11,7 @@ loop-u-init c = record {
 
 pub loop-u-preserved : goal.loop-u-preserved
 loop-u-preserved c = record {
-  adding = rw c.push_reserved.ensures.items (RowAdding-more c.args.minus c.args.t c.u-item.result c.args.us.now c.args.shares.now.items c.loop-u.u-index c.share_of.result c.loop-u.shares.items c.loop-u-test.true c.u-item.is c.share_of.ensures.word c.share_of.ensures.sum c.loop-u.invariant.adding);
+  adding = rw c.push_reserved.ensures.items (RowAdding-more c.args.minus c.args.t c.u-item.result c.args.us.now c.args.shares.now.items c.loop-u.u-index c.share_of.result c.loop-u.shares.items c.loop-u-test.true c.u-item.is (row_share_word c.args.minus c.args.t c.u-item.result c.share_of.result c.share_of.ensures) (row_share_sum c.args.minus c.args.t c.u-item.result c.share_of.result c.share_of.ensures) c.loop-u.invariant.adding);
   length = omega (arith, c.push_reserved.ensures.len, c.loop-u.invariant.length);
   capacity = omega (arith, c.push_reserved.ensures.capacity, c.loop-u.invariant.capacity);
 }

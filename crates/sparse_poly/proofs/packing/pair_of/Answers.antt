@@ -1,7 +1,8 @@
 use Rattle.std.proofs.Common.{arith, rules, ◌≡◌, ◌<◌, ◌≤◌, ◌+◌, ◌∙◌, sym, length}
 use Rattle.std.proofs.lemmas.Slice.{between_to_end}
 use mathlib.Core.Logic.{◌⊎◌, inl, inr}
-use Rattle.sparse_poly.proofs.PackedPairs.{Pairing-first, Pairing-second, Pairing-both, Pairing-end}
+use Rattle.sparse_poly.proofs.Packings.{row_share_word}
+use Rattle.sparse_poly.proofs.PackedPairs.{IsShareOf-row_share, Pairing-first, Pairing-second, Pairing-both, Pairing-end}
 use Rattle.sparse_poly.proofs.packing.pair_of.Goals.{then-both-test+else-j-us, else-both-test}
 use Rattle.sparse_poly.proofs.packing.pair_of.Goals as goal
 
@@ -9,7 +10,7 @@ pub both-preserved-in-Less : goal.both-preserved-in-Less
 both-preserved-in-Less c =
     let less : c.args.t.word + c.index-us-i.result.word < c.args.s.word + c.index-us-j.result.word = search rules in
     record {
-      pairing = rw c.push_reserved.ensures.items (Pairing-second c.args.minus c.args.t c.args.s c.args.us.now c.both.i c.both.j c.both.shares.items c.index-us-i.result c.index-us-j.result c.both-test.true c.if-j-us.true c.index-us-i.is c.index-us-j.is c.both.invariant.pairing c.share_of.result less (record { word = c.share_of.ensures.word; sum = c.share_of.ensures.sum }));
+      pairing = rw c.push_reserved.ensures.items (Pairing-second c.args.minus c.args.t c.args.s c.args.us.now c.both.i c.both.j c.both.shares.items c.index-us-i.result c.index-us-j.result c.both-test.true c.if-j-us.true c.index-us-i.is c.index-us-j.is c.both.invariant.pairing c.share_of.result less (IsShareOf-row_share _ _ _ c.share_of.result c.share_of.ensures));
       room = omega (arith, c.push_reserved.ensures.len, c.push_reserved.ensures.capacity, c.both.invariant.room, c.if-j-us.true);
     }
 
@@ -18,7 +19,7 @@ both-preserved-in-Equal c =
     let raw : c.args.t.word + c.index-us-i.result.word ≡ c.args.s.word + c.index-us-j.result.word = search rules in
     record {
       pairing = rw c.push_reserved-in-Equal.ensures.items (Pairing-both c.args.minus c.args.t c.args.s c.args.us.now c.both.i c.both.j c.both.shares.items c.index-us-i.result c.index-us-j.result c.both-test.true c.if-j-us.true c.index-us-i.is c.index-us-j.is c.both.invariant.pairing c.share_of-in-Equal.result c.share_of-in-Equal-2.result c.joined.result
-          (c.share_of-in-Equal.ensures.word ∙ raw ∙ sym c.share_of-in-Equal-2.ensures.word) (record { word = c.share_of-in-Equal.ensures.word; sum = c.share_of-in-Equal.ensures.sum }) (record { word = c.share_of-in-Equal-2.ensures.word; sum = c.share_of-in-Equal-2.ensures.sum }) c.joined.ensures.word c.joined.ensures.sum);
+          (row_share_word c.args.minus c.args.t c.index-us-i.result c.share_of-in-Equal.result c.share_of-in-Equal.ensures ∙ raw ∙ sym (row_share_word c.args.minus c.args.s c.index-us-j.result c.share_of-in-Equal-2.result c.share_of-in-Equal-2.ensures)) (IsShareOf-row_share c.args.minus c.args.t c.index-us-i.result c.share_of-in-Equal.result c.share_of-in-Equal.ensures) (IsShareOf-row_share c.args.minus c.args.s c.index-us-j.result c.share_of-in-Equal-2.result c.share_of-in-Equal-2.ensures) c.joined.ensures.word c.joined.ensures.sum);
       room = omega (arith, c.push_reserved-in-Equal.ensures.len, c.push_reserved-in-Equal.ensures.capacity, c.both.invariant.room, c.both-test.true, c.if-j-us.true);
     }
 
@@ -26,7 +27,7 @@ pub both-preserved : goal.both-preserved
 both-preserved c =
     let more : c.args.s.word + c.index-us-j.result.word < c.args.t.word + c.index-us-i.result.word = search rules in
     record {
-      pairing = rw c.push_reserved-in-Greater.ensures.items (Pairing-first c.args.minus c.args.t c.args.s c.args.us.now c.both.i c.both.j c.both.shares.items c.index-us-i.result c.index-us-j.result c.both-test.true c.if-j-us.true c.index-us-i.is c.index-us-j.is c.both.invariant.pairing c.share_of-in-Greater.result more (record { word = c.share_of-in-Greater.ensures.word; sum = c.share_of-in-Greater.ensures.sum }));
+      pairing = rw c.push_reserved-in-Greater.ensures.items (Pairing-first c.args.minus c.args.t c.args.s c.args.us.now c.both.i c.both.j c.both.shares.items c.index-us-i.result c.index-us-j.result c.both-test.true c.if-j-us.true c.index-us-i.is c.index-us-j.is c.both.invariant.pairing c.share_of-in-Greater.result more (IsShareOf-row_share _ _ _ c.share_of-in-Greater.result c.share_of-in-Greater.ensures));
       room = omega (arith, c.push_reserved-in-Greater.ensures.len, c.push_reserved-in-Greater.ensures.capacity, c.both.invariant.room, c.both-test.true);
     }
 

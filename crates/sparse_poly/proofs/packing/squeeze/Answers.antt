@@ -10,13 +10,13 @@ use Rattle.sparse_poly.proofs.Squeezes.{Squeezed-start, Squeezed-dropped, Squeez
 use Rattle.sparse_poly.proofs.packing.squeeze.Goals as goal
 
 pub shares-init : goal.shares-init
-shares-init c = record {
+shares-init g c = record {
   squeezed = rw c.in_ok-terms.ensures.items (Squeezed-start _ _);
   room = search rules;
 }
 
 pub returns-then-share : goal.returns-then-share
-returns-then-share c =
+returns-then-share g c =
     let vs = c.args.layout.now in
     let heavy : max_coeff < c.in-Some.share.weight = omega (arith, c.if-share.true) in
     let first = IsDescending-read vs _ c.requires.layout c.requires.first.falling c.requires.first.under in
@@ -24,7 +24,7 @@ returns-then-share c =
     rw c.of_word.ensures (Squeezed-heavy _ _ _ _ _ _ c.shares.terms.items (share_read (monomial_of vs) c.in-Some.share) first second c.shares.invariant.squeezed (c.in-Some.ensures.taken vs c.requires.layout c.requires.first c.requires.second) heavy)
 
 pub shares-preserved-then-share-eq0 : goal.shares-preserved-then-share-eq0
-shares-preserved-then-share-eq0 c =
+shares-preserved-then-share-eq0 g c =
     let vs = c.args.layout.now in
     let light : c.in-Some.share.weight ≤ max_coeff = omega (arith, c.if-share.false) in
     let first = IsDescending-read vs _ c.requires.layout c.requires.first.falling c.requires.first.under in
@@ -35,7 +35,7 @@ shares-preserved-then-share-eq0 c =
     }
 
 pub shares-preserved : goal.shares-preserved
-shares-preserved c =
+shares-preserved g c =
     let vs = c.args.layout.now in
     let light : c.in-Some.share.weight ≤ max_coeff = omega (arith, c.if-share.false) in
     let same : to_z w128 (of_z w128 c.in-Some.share.sum) ≡ c.in-Some.share.sum = search rules in
@@ -47,5 +47,5 @@ shares-preserved c =
     }
 
 pub returns : goal.returns
-returns c =
+returns g c =
     rw c.trimmed.ensures (Squeezed-end _ _ _ _ c.shares.terms.items c.shares.invariant.squeezed (both_ended c.args.layout.now _ _ _ _ _ _ c.next_share.result c.in_default.not-Some c.next_share.ensures))

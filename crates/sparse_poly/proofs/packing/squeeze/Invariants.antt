@@ -6,10 +6,10 @@ use Rattle.sparse_poly.proofs.Squeezes.{Squeezed}
 use Rattle.sparse_poly.proofs.packing.squeeze.Given as goal
 
 abbrev pub invariant-shares : goal.invariant-shares
-invariant-shares l = record {
-  squeezed : Squeezed (shares_read (monomial_of l.layout) l.first) (shares_read (monomial_of l.layout) l.second) (shares_read (monomial_of l.layout) (drop l.i l.first)) (shares_read (monomial_of l.layout) (drop l.j l.second)) l.terms.items;
-  room : vec_len l.terms + ((length l.first - l.i) + (length l.second - l.j)) ≤ vec_capacity l.terms;
+invariant-shares g l = record {
+  squeezed : Squeezed (shares_read (monomial_of l.layout) (g.L.ShareList.listed l.first)) (shares_read (monomial_of l.layout) (g.L.ShareList.listed l.second)) (shares_read (monomial_of l.layout) (drop l.i (g.L.ShareList.listed l.first))) (shares_read (monomial_of l.layout) (drop l.j (g.L.ShareList.listed l.second))) l.terms.items;
+  room : vec_len l.terms + ((length (g.L.ShareList.listed l.first) - l.i) + (length (g.L.ShareList.listed l.second) - l.j)) ≤ vec_capacity l.terms;
 }
 
 abbrev pub decreases-shares : goal.decreases-shares
-decreases-shares l = (length l.first - l.i) + (length l.second - l.j)
+decreases-shares g l = (length (g.L.ShareList.listed l.first) - l.i) + (length (g.L.ShareList.listed l.second) - l.j)
