@@ -1,5 +1,5 @@
 -- Shares: sums of contributions to one monomial, and what they stand for.
-use Rattle.std.specs.Prelude.{◌≡◌, ◌<◌, ◌≤◌, ℕ, ◌+◌, ◌⊎◌, if◌then◌else◌, ℤ, pos, ◌+ℤ◌, List, [], ◌∷◌, ◌++◌, length}
+use Rattle.std.specs.Prelude.{◌≡◌, ◌<◌, ◌≤◌, ℕ, ◌+◌, ◌⊎◌, if◌then◌else◌, ℤ, pos, ◌+ℤ◌, List, [], ◌∷◌, ◌++◌, length, take, drop, slice_index_or}
 use Rattle.std.specs.List.{AllByRecursion}
 use Rattle.std.specs.Ordering.{is_eq}
 use Rattle.std.specs.declared.cmp.Ordering.TheVariants.{Less}
@@ -10,6 +10,8 @@ use Rattle.sparse_poly.specs.declared.entry.Share.{Share}
 use Rattle.sparse_poly.specs.declared.Term.{Term}
 use Rattle.sparse_poly.specs.declared.merging.Front.{Front}
 use Rattle.sparse_poly.specs.declared.merging.Front.TheVariants.{Neither, First, Second, Both}
+use Rattle.sparse_poly.specs.declared.merging.Place.{Place}
+use Rattle.sparse_poly.specs.declared.merging.Place.TheVariants.{At, After}
 use Rattle.sparse_poly.specs.Polynomials.{coefficient, weight}
 use Rattle.sparse_poly.specs.Contributions.{max_coeff, IsPoly}
 use Rattle.sparse_poly.specs.declared.PolyFault.{PolyFault}
@@ -73,6 +75,11 @@ pub record IsSorted (xs ss : List Share) : Type 0 where
 pub record IsMerged (xs ys ss : List Share) : Type 0 where
   pub both : StandsForBoth ss xs ys
   pub falling : IsDescending xs → IsDescending ys → IsDescending ss
+
+-- where a monomial stands in a falling list: at that share, or after so many
+abbrev pub IsPlace : List Share → List (ℕ × ℕ) → Place → Type 0
+IsPlace xs m (At k) = (k < length xs) × ((x : Share) × (x ≡ slice_index_or xs k x) × (x.monomial ≡ m))
+IsPlace xs m (After k) = (k ≤ length xs) × AllBelow m (drop k xs) × (IsDescending xs → AllByRecursion (λ (x : Share). monomial_cmp m x.monomial ≡ Less) (take k xs))
 
 -- each monomial of a polynomial's terms is one
 abbrev pub AllMonomials : List Term → Type 0

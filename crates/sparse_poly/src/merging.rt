@@ -1,9 +1,10 @@
 //! The merge of two lists of shares that fall by their monomials, with early sums.
-ghost use Rattle.std.specs.Prelude.{◌≡◌, ◌+◌, ◌+ℤ◌, List, [], ◌∷◌, ◌++◌, IfOk};
-ghost use Rattle.sparse_poly.specs.Standing.{Agree, IsNext, IsFront, IsMerged, IsSorted};
+ghost use Rattle.std.specs.Prelude.{◌≡◌, ◌+◌, ◌+ℤ◌, List, [], ◌∷◌, ◌++◌, IfOk, OnOk};
+ghost use Rattle.sparse_poly.specs.Standing.{Agree, IsNext, IsFront, IsMerged, IsSorted, IsPlace};
 
 use crate::entry::Share;
 use crate::weighing::joined_sum;
+use monomial::Monomial;
 use std::alloc::AllocError;
 use std::cmp::Ordering;
 use std::collections::VecDeque;
@@ -108,4 +109,43 @@ pub fn next_share(first: &mut VecDeque<Share>, second: &mut VecDeque<Share>) -> 
             Some(joined(x, y))
         }
     }
+}
+
+// Where a monomial stands in a falling list: at the share of this number, or after so many.
+enum Place {
+    At(usize),
+    After(usize),
+}
+
+// The place is looked for from the end, where it mostly is.
+fn place_of(shares: &[Share], monomial: &Monomial) -> Place
+    ensures { IsPlace shares.now monomial.now result }
+{
+    let mut place = shares.len();
+    'below: while place > 0 {
+        match shares[place - 1].monomial.order(monomial) {
+            Ordering::Less => place -= 1,
+            Ordering::Equal => return Place::At(place - 1),
+            Ordering::Greater => return Place::After(place),
+        }
+    }
+    Place::After(0)
+}
+
+/// Puts a share into a falling list, where it is joined to the one of its monomial.
+pub fn put(shares: &mut Vec<Share>, share: Share) -> Result<(), AllocError>
+    ensures { OnOk result (IsMerged shares.old.items (share ∷ []) shares.new.items) }
+{
+    match place_of(shares, &share.monomial) {
+        Place::At(place) => {
+            let total = joined_sum(shares[place].total(), share.total());
+            shares[place] = Share {
+                monomial: share.monomial,
+                sum: total.value,
+                weight: total.weight,
+            };
+        }
+        Place::After(place) => shares.insert(place, share)?,
+    }
+    Ok(())
 }

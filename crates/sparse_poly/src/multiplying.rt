@@ -8,12 +8,15 @@ ghost use Rattle.sparse_poly.specs.Standing.{Agree, Stands, AllMonomials, IsDesc
 
 use crate::entry::Share;
 use crate::layout::{is_laid, layout_for, without_layout};
-use crate::merging::{merge, sorted};
+use crate::merging::{merge, put, sorted};
 use crate::packing::{packed_combination, packed_multiplication};
 use crate::squeezing::squeeze;
 use crate::{PolyFault, Term};
 use monomial::{MonoFault, Monomial};
 use std::alloc::{AllocError, Global};
+
+// The most terms whose contributions are put in their places one by one.
+const FEW: usize = 4;
 
 /// The terms of `l*q - a*p`.
 pub fn combined(
@@ -147,7 +150,7 @@ fn copied(alloc: Global, terms: &[Term]) -> Result<Vec<Share>, AllocError>
         coeff: 1,
     };
     let mut high = None;
-    match row_of(alloc, &one, terms, false, &mut high) {
+    match row_of(alloc, terms.len(), &one, terms, false, &mut high) {
         Ok(shares) => Ok(shares),
         Err(e) => Err(e),
     }
@@ -241,9 +244,10 @@ fn push_share(
     Ok(())
 }
 
-// The contributions of one term, in falling order where the terms fall.
+// The contributions of one term, in falling order where the terms fall, with room for some number of shares.
 fn row_of(
     alloc: Global,
+    room: usize,
     t: &Term,
     us: &[Term],
     minus: bool,
@@ -253,9 +257,53 @@ fn row_of(
     ensures sums { IfOk result (λ v. high.new ≡ None → Stands v.items (signed_row minus t.now us.now)) }
     ensures order { IfOk result (λ v. IsMonomial t.now.monomial → AllMonomials us.now → IsFalling us.now → IsDescending v.items) }
 {
-    let mut shares = Vec::with_capacity(alloc, us.len())?;
+    let mut shares = Vec::with_capacity(alloc, room)?;
     for u in us {
         push_share(t, u, minus, &mut shares, high)?;
+    }
+    Ok(shares)
+}
+
+// Puts one contribution into its place.
+fn put_share(
+    t: &Term,
+    u: &Term,
+    minus: bool,
+    shares: &mut Vec<Share>,
+    high: &mut Option<u32>,
+) -> Result<(), AllocError>
+    ensures high { OnOk result (high.new ≡ higher high.old (degree_of (signed_row minus t.now (u.now ∷ [])))) }
+    ensures sums { OnOk result (high.new ≡ None → (cs : _) → Stands shares.old.items cs → Stands shares.new.items (cs ++ signed_row minus t.now (u.now ∷ []))) }
+    ensures order { OnOk result (IsDescending shares.old.items → IsDescending shares.new.items) }
+{
+    match t.monomial.times(&u.monomial) {
+        Ok(monomial) => {
+            put(shares, share_of(monomial, t.coeff, u.coeff, minus))?;
+        }
+        Err(MonoFault::Degree { var }) => {
+            *high = greater(*high, var);
+        }
+        Err(MonoFault::OutOfMemory) => return Err(AllocError),
+    }
+    Ok(())
+}
+
+// The contributions of two terms. Those of the second are put among those of the first, so there should be few.
+fn pair_of(
+    alloc: Global,
+    t: &Term,
+    s: &Term,
+    us: &[Term],
+    minus: bool,
+    high: &mut Option<u32>,
+) -> Result<Vec<Share>, AllocError>
+    ensures high { OnOk result (high.new ≡ higher high.old (degree_of (signed_products minus (t.now ∷ s.now ∷ []) us.now))) }
+    ensures sums { IfOk result (λ v. high.new ≡ None → Stands v.items (signed_products minus (t.now ∷ s.now ∷ []) us.now)) }
+    ensures order { IfOk result (λ v. IsMonomial t.now.monomial → AllMonomials us.now → IsFalling us.now → IsDescending v.items) }
+{
+    let mut shares = row_of(alloc, us.len().saturating_add(us.len()), t, us, minus, high)?;
+    for u in us {
+        put_share(s, u, minus, &mut shares, high)?;
     }
     Ok(shares)
 }
@@ -277,7 +325,10 @@ fn part(
         return Ok(Vec::new(alloc));
     }
     if n == 1 {
-        return row_of(alloc, &ts[0], us, minus, high);
+        return row_of(alloc, us.len(), &ts[0], us, minus, high);
+    }
+    if n == 2 && us.len() <= FEW {
+        return pair_of(alloc, &ts[0], &ts[1], us, minus, high);
     }
     let first = part(alloc, &ts[..n / 2], us, minus, high)?;
     let second = part(alloc, &ts[n / 2..], us, minus, high)?;
