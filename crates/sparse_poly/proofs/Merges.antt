@@ -61,7 +61,7 @@ sums_second xs ys vs y e =
     assoc_sum a b c = omega (arith, ints)
 
 -- two shares of one monomial as one
-pub joined_at : (s x y : Share) → s.monomial ≡ x.monomial → x.monomial ≡ y.monomial → Agree s.weight s.sum (x.weight + y.weight) (x.sum +ℤ y.sum) → (m : List (ℕ × ℕ)) →
+joined_at : (s x y : Share) → s.monomial ≡ x.monomial → x.monomial ≡ y.monomial → Agree s.weight s.sum (x.weight + y.weight) (x.sum +ℤ y.sum) → (m : List (ℕ × ℕ)) →
     Agree (sweight (s ∷ []) m) (ssum (s ∷ []) m) (sweight (x ∷ []) m + sweight (y ∷ []) m) (ssum (x ∷ []) m +ℤ ssum (y ∷ []) m)
 joined_at s x y e f a m =
     subst (λ n. Agree ((if is_eq (monomial_cmp m s.monomial) then s.weight else 0) + 0) ((if is_eq (monomial_cmp m s.monomial) then s.sum else pos 0) +ℤ pos 0)

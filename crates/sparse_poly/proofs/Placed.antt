@@ -1,127 +1,138 @@
--- A share that is put into a falling list, and the contributions of a second term put among those of a first.
-use Rattle.std.specs.Prelude.{◌≡◌, ◌<◌, ◌≤◌, ℕ, zero, suc, ◌+◌, ◌-◌, Bool, true, false, if◌then◌else◌, ℤ, pos, ◌+ℤ◌, ◌*ℤ◌, unsigned_abs, List, [], ◌∷◌, ◌++◌, length, take, drop, slice_index_or, slice_set, refl}
+-- A share that is put into a falling list in two parts, and the contributions of a second term merged into those of a first.
+use Rattle.std.specs.Prelude.{◌≡◌, ◌<◌, ℕ, zero, suc, ◌+◌, Bool, true, false, ℤ, pos, ◌+ℤ◌, ◌*ℤ◌, unsigned_abs, List, [], ◌∷◌, ◌++◌, length, take, drop, slice_index_or, refl}
 use mathlib.Core.Logic.{inl}
 use Rattle.std.proofs.Common.{arith, sym, ◌∙◌, ap, subst, append_assoc}
 use Rattle.std.proofs.lemmas.Int.{ints}
-use Rattle.std.proofs.lemmas.List.{take-append-drop}
-use Rattle.std.specs.List.{AllByRecursion, insert}
-use Rattle.std.specs.Ordering.{is_eq}
-use Rattle.std.specs.declared.cmp.Ordering.TheVariants.{Less}
+use Rattle.std.specs.List.{AllByRecursion}
+use Rattle.std.specs.declared.cmp.Ordering.TheVariants.{Less, Equal, Greater}
 use Rattle.std.specs.declared.option.Option.{Option}
 use Rattle.std.specs.declared.option.Option.TheVariants.{None}
-use Rattle.monomial.specs.Monomials.{monomial_cmp, monomial_times}
-use Rattle.monomial.proofs.Total.{monomial_cmp-IsTotalOrder}
+use Rattle.monomial.specs.Monomials.{monomial_cmp, monomial_times, IsMonomial}
+use Rattle.monomial.proofs.Total.{monomial_cmp-IsAntisymmetric}
+use Rattle.monomial.proofs.Lower.{monomial_cmp-times}
 use Rattle.sparse_poly.specs.declared.Term.{Term}
 use Rattle.sparse_poly.specs.declared.entry.Share.{Share}
-use Rattle.sparse_poly.specs.declared.merging.Place.TheVariants.{At, After}
-use Rattle.sparse_poly.specs.Contributions.{signed, signed_row, signed_products, higher, degree_of}
-use Rattle.sparse_poly.specs.Standing.{ssum, sweight, Agree, Stands, AllBelow, IsDescending, IsMerged, IsPlace}
+use Rattle.sparse_poly.specs.Contributions.{signed, signed_row, signed_products, higher, degree_of, IsFalling}
+use Rattle.sparse_poly.specs.Standing.{ssum, sweight, Agree, Stands, StandsForBoth, AllAbove, AllMonomials, IsDescending, IsTaken, IsMoved, IsFrontMoved, KeepsOrder}
 use Rattle.sparse_poly.proofs.Adding.{none_before, degree_of-append, higher-None, higher-assoc, take_one, take_whole, signed_row-append, signed_products-append, signed_products-one}
-use Rattle.sparse_poly.proofs.Descending.{AllAbove}
-use Rattle.sparse_poly.proofs.Merges.{joined_at}
+use Rattle.sparse_poly.proofs.Descending.{all_front, all_back, all_more, all_both, above_less}
+use Rattle.sparse_poly.proofs.Merges.{turned}
+use Rattle.sparse_poly.proofs.Places.{drop_one}
 use Rattle.sparse_poly.proofs.Standings.{agree_plus, agree_through, same_agrees, Stands-both, Stands-one, row_one}
 use Rattle.sparse_poly.proofs.Sums.{ssum-append, sweight-append}
 
-pub share_at : (P : Share → Type 0) (xs : List Share) (k : ℕ) (x : Share) → k < length xs → x ≡ slice_index_or xs k x → AllByRecursion P xs → P x
-share_at P [] k x l e h = absurd (omega arith)
-share_at P (y ∷ xs) zero x l e h = subst P (sym e) h.0
-share_at P (y ∷ xs) (suc k) x l e h = share_at P xs k x (omega arith) e h.1
-
-pub same_share : (xs : List Share) (k : ℕ) (x y : Share) → k < length xs → x ≡ slice_index_or xs k x → y ≡ slice_index_or xs k y → x ≡ y
-same_share [] k x y l e f = absurd (omega arith)
-same_share (z ∷ xs) zero x y l e f = e ∙ sym f
-same_share (z ∷ xs) (suc k) x y l e f = same_share xs k x y (omega arith) e f
-
-above_to : (xs : List Share) (k : ℕ) (x : Share) (m : List (ℕ × ℕ)) → k < length xs → x ≡ slice_index_or xs k x → monomial_cmp m x.monomial ≡ Less → IsDescending xs → AllAbove m (take (suc k) xs)
-above_to [] k x m l e b d = absurd (omega arith)
-above_to (y ∷ xs) zero x m l e b d = (ap (λ (u : Share). monomial_cmp m u.monomial) (sym e) ∙ b, tt)
-above_to (y ∷ xs) (suc k) x m l e b d =
-    (monomial_cmp-IsTotalOrder.trans m x.monomial y.monomial b (share_at (λ (u : Share). monomial_cmp u.monomial y.monomial ≡ Less) xs k x (omega arith) e d.0), above_to xs k x m (omega arith) e b d.1)
-
--- the share before a place is above a monomial, and so are those before it
-pub above_all : (xs : List Share) (p : ℕ) (x : Share) (m : List (ℕ × ℕ)) → 0 < p → p ≤ length xs → x ≡ slice_index_or xs (p - 1) x → monomial_cmp m x.monomial ≡ Less → IsDescending xs → AllAbove m (take p xs)
-above_all xs p x m l h e b d =
-    let same : suc (p - 1) ≡ p = omega arith in
-    subst (λ n. AllAbove m (take n xs)) same (above_to xs (p - 1) x m (omega arith) e b d)
-
-all_insert : (P : Share → Type 0) (xs ys : List Share) (y : Share) → AllByRecursion P (xs ++ ys) → P y → AllByRecursion P (xs ++ y ∷ ys)
-all_insert P [] ys y h p = (p, h)
-all_insert P (x ∷ xs) ys y h p = (h.0, all_insert P xs ys y h.1 p)
-
-falling_insert : (xs ys : List Share) (y : Share) → IsDescending (xs ++ ys) → AllAbove y.monomial xs → AllBelow y.monomial ys → IsDescending (xs ++ y ∷ ys)
-falling_insert [] ys y d a b = (b, d)
-falling_insert (x ∷ xs) ys y d a b = (all_insert (λ (u : Share). monomial_cmp u.monomial x.monomial ≡ Less) xs ys y d.0 a.0, falling_insert xs ys y d.1 a.1 b)
-
--- a share after so many
-pub put_after : (xs zs : List Share) (k : ℕ) (y : Share) → IsPlace xs y.monomial (After k) → zs ≡ insert xs k y → IsMerged xs (y ∷ []) zs
-put_after xs zs k y p e = subst (IsMerged xs (y ∷ [])) (sym e) (record {
-  both = λ m. same_agrees _ _ _ _
-      (sweight-append m (take k xs) (y ∷ drop k xs) ∙ turned (sweight (take k xs) m) (if is_eq (monomial_cmp m y.monomial) then y.weight else 0) (sweight (drop k xs) m) ∙ ap (λ n. n + sweight (y ∷ []) m) (sym (sweight-append m (take k xs) (drop k xs)) ∙ ap (λ us. sweight us m) whole))
-      (ssum-append m (take k xs) (y ∷ drop k xs) ∙ turned_sum (ssum (take k xs) m) (if is_eq (monomial_cmp m y.monomial) then y.sum else pos 0) (ssum (drop k xs) m) ∙ ap (λ n. n +ℤ ssum (y ∷ []) m) (sym (ssum-append m (take k xs) (drop k xs)) ∙ ap (λ us. ssum us m) whole));
-  falling = λ d _. falling_insert (take k xs) (drop k xs) y (subst IsDescending (sym whole) d) (p.2 d) p.1;
-})
-  where
-    whole : take k xs ++ drop k xs ≡ xs
-    whole = take-append-drop k xs
-
-    turned : (a b c : ℕ) → a + (b + c) ≡ (a + c) + (b + 0)
-    turned a b c = omega arith
-
-    turned_sum : (a b c : ℤ) → a +ℤ (b +ℤ c) ≡ (a +ℤ c) +ℤ (b +ℤ pos 0)
-    turned_sum a b c = omega (arith, ints)
-
-all_set : (P : Share → Type 0) (xs : List Share) (k : ℕ) (z : Share) → AllByRecursion P xs → P z → AllByRecursion P (slice_set xs k z)
-all_set P [] k z h p = h
-all_set P (x ∷ xs) zero z h p = (p, h.1)
-all_set P (x ∷ xs) (suc k) z h p = (h.0, all_set P xs k z h.1 p)
-
-falling_set : (xs : List Share) (k : ℕ) (x z : Share) → k < length xs → x ≡ slice_index_or xs k x → z.monomial ≡ x.monomial → IsDescending xs → IsDescending (slice_set xs k z)
-falling_set [] k x z l e f d = absurd (omega arith)
-falling_set (w ∷ xs) zero x z l e f d = (subst (λ m. AllBelow m xs) (ap (λ (u : Share). u.monomial) (sym e) ∙ sym f) d.0, d.1)
-falling_set (w ∷ xs) (suc k) x z l e f d =
-    (all_set (λ (u : Share). monomial_cmp u.monomial w.monomial ≡ Less) xs k z d.0 (ap (λ m. monomial_cmp m w.monomial) f ∙ share_at (λ (u : Share). monomial_cmp u.monomial w.monomial ≡ Less) xs k x (omega arith) e d.0), falling_set xs k x z (omega arith) e f d.1)
-
--- a share joined to the one at a place
-sums_set : (xs : List Share) (k : ℕ) (x y z : Share) (m : List (ℕ × ℕ)) → k < length xs → x ≡ slice_index_or xs k x → Agree (sweight (z ∷ []) m) (ssum (z ∷ []) m) (sweight (x ∷ []) m + sweight (y ∷ []) m) (ssum (x ∷ []) m +ℤ ssum (y ∷ []) m) →
-    Agree (sweight (slice_set xs k z) m) (ssum (slice_set xs k z) m) (sweight xs m + sweight (y ∷ []) m) (ssum xs m +ℤ ssum (y ∷ []) m)
-sums_set [] k x y z m l e a = absurd (omega arith)
-sums_set (w ∷ xs) zero x y z m l e a =
-    agree_through _ _ _ _ _ _ (same_agrees _ _ _ _ (sweight-append m (z ∷ []) xs) (ssum-append m (z ∷ []) xs))
-    (agree_through _ _ _ _ _ _ (agree_plus _ _ _ _ _ _ _ _ a (inl (refl, refl)))
+-- a share, put between what is above it and what is not
+pub put_sums : (ss xs ts ys us zs : List Share) (y s : Share) → ts ++ ys ≡ ss ++ xs → IsTaken ys (y ∷ []) us [] s → zs ≡ ts ++ s ∷ [] → StandsForBoth (zs ++ us) (ss ++ xs) (y ∷ [])
+put_sums ss xs ts ys us zs y s e t f m =
+    agree_through _ _ _ _ _ _
     (same_agrees _ _ _ _
-    (turned (sweight (x ∷ []) m) (sweight (y ∷ []) m) (sweight xs m) ∙ ap (λ n. n + sweight (y ∷ []) m) (sym (sweight-append m (x ∷ []) xs) ∙ ap (λ (u : Share). sweight (u ∷ xs) m) e))
-    (turned_sum (ssum (x ∷ []) m) (ssum (y ∷ []) m) (ssum xs m) ∙ ap (λ n. n +ℤ ssum (y ∷ []) m) (sym (ssum-append m (x ∷ []) xs) ∙ ap (λ (u : Share). ssum (u ∷ xs) m) e))))
-  where
-    turned : (a b c : ℕ) → (a + b) + c ≡ (a + c) + b
-    turned a b c = omega arith
-
-    turned_sum : (a b c : ℤ) → (a +ℤ b) +ℤ c ≡ (a +ℤ c) +ℤ b
-    turned_sum a b c = omega (arith, ints)
-sums_set (w ∷ xs) (suc k) x y z m l e a =
-    agree_through _ _ _ _ _ _ (same_agrees _ _ _ _ (sweight-append m (w ∷ []) (slice_set xs k z)) (ssum-append m (w ∷ []) (slice_set xs k z)))
-    (agree_through _ _ _ _ _ _ (agree_plus _ _ _ _ _ _ _ _ (inl (refl, refl)) (sums_set xs k x y z m (omega arith) e a))
+    (ap (λ vs. sweight (vs ++ us) m) f ∙ sweight-append m (ts ++ s ∷ []) us ∙ ap (λ n. n + sweight us m) (sweight-append m ts (s ∷ [])) ∙ assoc (sweight ts m) (sweight (s ∷ []) m) (sweight us m))
+    (ap (λ vs. ssum (vs ++ us) m) f ∙ ssum-append m (ts ++ s ∷ []) us ∙ ap (λ n. n +ℤ ssum us m) (ssum-append m ts (s ∷ [])) ∙ assoc_sum (ssum ts m) (ssum (s ∷ []) m) (ssum us m)))
+    (agree_through _ _ _ _ _ _ (agree_plus (sweight ts m) (sweight ts m) _ _ (ssum ts m) (ssum ts m) (ssum (s ∷ []) m +ℤ (ssum us m +ℤ pos 0)) (ssum ys m +ℤ ssum (y ∷ []) m) (inl (refl, refl)) (t.sums m))
     (same_agrees _ _ _ _
-    (assoc (sweight (w ∷ []) m) (sweight xs m) (sweight (y ∷ []) m) ∙ ap (λ n. n + sweight (y ∷ []) m) (sym (sweight-append m (w ∷ []) xs)))
-    (assoc_sum (ssum (w ∷ []) m) (ssum xs m) (ssum (y ∷ []) m) ∙ ap (λ n. n +ℤ ssum (y ∷ []) m) (sym (ssum-append m (w ∷ []) xs)))))
+    (turned (sweight ts m) (sweight ys m) (sweight (y ∷ []) m) ∙ ap (λ n. n + sweight (y ∷ []) m) (sym (sweight-append m ts ys) ∙ ap (λ vs. sweight vs m) e))
+    (turned_sum (ssum ts m) (ssum ys m) (ssum (y ∷ []) m) ∙ ap (λ n. n +ℤ ssum (y ∷ []) m) (sym (ssum-append m ts ys) ∙ ap (λ vs. ssum vs m) e))))
   where
-    assoc : (a b c : ℕ) → a + (b + c) ≡ (a + b) + c
+    assoc : (a b c : ℕ) → (a + b) + c ≡ a + (b + (c + 0))
     assoc a b c = omega arith
 
-    assoc_sum : (a b c : ℤ) → a +ℤ (b +ℤ c) ≡ (a +ℤ b) +ℤ c
+    assoc_sum : (a b c : ℤ) → (a +ℤ b) +ℤ c ≡ a +ℤ (b +ℤ (c +ℤ pos 0))
     assoc_sum a b c = omega (arith, ints)
 
-pub put_at : (xs zs : List Share) (k : ℕ) (x y z : Share) → IsPlace xs y.monomial (At k) → x ≡ slice_index_or xs k x → z.monomial ≡ y.monomial → Agree z.weight z.sum (x.weight + y.weight) (x.sum +ℤ y.sum) → zs ≡ slice_set xs k z → IsMerged xs (y ∷ []) zs
-put_at xs zs k x y z p e f a g =
-    let same : x.monomial ≡ y.monomial = ap (λ (u : Share). u.monomial) (same_share xs k x p.1.0 p.0 e p.1.1) ∙ p.1.2 in
-    subst (IsMerged xs (y ∷ [])) (sym g) (record {
-      both = λ m. sums_set xs k x y z m p.0 e (joined_at z x y (f ∙ sym same) same a m);
-      falling = λ d _. falling_set xs k x z p.0 e (f ∙ sym same) d;
-    })
+    turned : (a b c : ℕ) → a + (b + c) ≡ (a + b) + c
+    turned a b c = omega arith
+
+    turned_sum : (a b c : ℤ) → a +ℤ (b +ℤ c) ≡ (a +ℤ b) +ℤ c
+    turned_sum a b c = omega (arith, ints)
+
+falling_put : (ts ys us : List Share) (y s : Share) → IsTaken ys (y ∷ []) us [] s → IsDescending (ts ++ ys) → AllAbove y.monomial ts → IsDescending ((ts ++ s ∷ []) ++ us)
+falling_put [] ys us y s t d a = let f = t.falling d (tt, tt) in (f.2, f.0)
+falling_put (o ∷ ts) ys us y s t d a =
+    let b = t.bounded o.monomial (all_back _ ts ys d.0) (a.0, tt) in
+    (all_both (λ (x : Share). monomial_cmp x.monomial o.monomial ≡ Less) (ts ++ s ∷ []) us (all_more (λ (x : Share). monomial_cmp x.monomial o.monomial ≡ Less) ts s (all_front _ ts ys d.0) b.2) b.0, falling_put ts ys us y s t d.1 a.1)
+
+pub put_order : (ss xs ts ys us zs : List Share) (y s : Share) → IsMoved y.monomial ss xs ts ys → IsTaken ys (y ∷ []) us [] s → s.monomial ≡ y.monomial → zs ≡ ts ++ s ∷ [] → KeepsOrder y.monomial ss xs zs us
+put_order ss xs ts ys us zs y s v t e f = record {
+  falling = λ d a. subst (λ vs. IsDescending (vs ++ us)) (sym f) (falling_put ts ys us y s t (subst IsDescending (sym v.list) d) (v.above a));
+  above = λ k l a. subst (AllAbove k) (sym f) (all_more (λ (x : Share). monomial_cmp k x.monomial ≡ Less) ts s (above_less k y.monomial ts l (v.above a)) (ap (monomial_cmp k) e ∙ l));
+}
+
+pub keeps_order : (m : List (ℕ × ℕ)) (ss xs : List Share) → KeepsOrder m ss xs ss xs
+keeps_order m ss xs = record { falling = λ d a. d; above = λ k l a. above_less k m ss l a }
+
+-- one more share was moved
+pub moved_more : (m : List (ℕ × ℕ)) (ss xs ts ys us zs vs : List Share) (x : Share) → IsMoved m ss xs ts ys → ys ≡ x ∷ us → monomial_cmp m x.monomial ≡ Less → zs ≡ ts ++ x ∷ [] → vs ≡ us → IsMoved m ss xs zs vs
+moved_more m ss xs ts ys us zs vs x v e l f g = record {
+  list = ap (λ ws. ws ++ vs) f ∙ ap (λ ws. (ts ++ x ∷ []) ++ ws) g ∙ append_assoc ts (x ∷ []) us ∙ ap (λ ws. ts ++ ws) (sym e) ∙ v.list;
+  above = λ a. subst (AllAbove m) (sym f) (all_more (λ (y : Share). monomial_cmp m y.monomial ≡ Less) ts x (v.above a) l);
+}
+
+split_front : (ys : List Share) (x : Share) → 0 < length ys → x ≡ slice_index_or ys 0 x → ys ≡ x ∷ drop 1 ys
+split_front [] x l e = absurd (omega arith)
+split_front (y ∷ ys) x l e = ap (λ w. w ∷ ys) (sym e)
+
+pub moved_front : (m : List (ℕ × ℕ)) (ss xs ts ys zs vs : List Share) (x : Share) → IsMoved m ss xs ts ys → 0 < length ys → x ≡ slice_index_or ys 0 x → monomial_cmp x.monomial m ≡ Greater → IsFrontMoved ts ys zs vs → IsMoved m ss xs zs vs × (length vs < length ys)
+moved_front m ss xs ts ys zs vs x v p e g f =
+    let s = split_front ys x p e in
+    let h = f (drop 1 ys) x s in
+    (moved_more m ss xs ts ys (drop 1 ys) zs vs x v s (turned x.monomial m g) h.0 h.1, omega (arith, ap length s, ap length h.1))
+
+pub found_equal : (ys us : List Share) (x0 x : Share) (m : List (ℕ × ℕ)) → x0 ≡ slice_index_or ys 0 x0 → monomial_cmp x0.monomial m ≡ Equal → ys ≡ x ∷ us → x.monomial ≡ m
+found_equal ys us x0 x m e o f = sym (ap (λ (u : Share). u.monomial) (e ∙ ap (λ zs. slice_index_or zs 0 x0) f)) ∙ monomial_cmp-IsAntisymmetric x0.monomial m o
+
+-- the order of two rows of which the second is merged into the first: what is left of it is below the shares that are done
+pub OrderedPair : Term → List Term → ℕ → List Share → List Share → List Share → Type 0
+OrderedPair t us k fs ss xs = IsMonomial t.monomial → AllMonomials us → IsFalling us → IsDescending fs → IsDescending (ss ++ xs) × AllByRecursion (λ (w : Term). AllAbove (monomial_times t.monomial w.monomial) ss) (drop k us)
+
+pub OrderedPair-start : (t : Term) (us : List Term) (fs : List Share) → OrderedPair t us 0 fs [] fs
+unfolding OrderedPair
+OrderedPair-start t us fs h i f d = (d, each us)
+  where
+    each : (ws : List Term) → AllByRecursion (λ (w : Term). AllAbove (monomial_times t.monomial w.monomial) []) ws
+    each [] = tt
+    each (w ∷ ws) = (tt, each ws)
+
+falling_from : (us : List Term) (k : ℕ) → IsFalling us → IsFalling (drop k us)
+falling_from us zero f = f
+falling_from [] (suc k) f = f
+falling_from (u ∷ us) (suc k) f = falling_from us k f.1
+
+all_from : (P : Term → Type 0) (us : List Term) (k : ℕ) → AllByRecursion P us → AllByRecursion P (drop k us)
+all_from P us zero h = h
+all_from P [] (suc k) h = h
+all_from P (u ∷ us) (suc k) h = all_from P us k h.1
+
+pub OrderedPair-more : (t : Term) (us : List Term) (k : ℕ) (u : Term) (fs ss xs ts ys : List Share) → k < length us → u ≡ slice_index_or us k u → OrderedPair t us k fs ss xs → KeepsOrder (monomial_times t.monomial u.monomial) ss xs ts ys → OrderedPair t us (k + 1) fs ts ys
+unfolding OrderedPair
+OrderedPair-more t us k u fs ss xs ts ys l e o p h i f d = (p.falling old.0 own.0, each (drop (k + 1) us) low.0 ones.1)
+  where
+    next : drop k us ≡ u ∷ drop (k + 1) us
+    next = drop_one us k u l ∙ ap (λ w. w ∷ drop (k + 1) us) (sym e)
+
+    old : IsDescending (ss ++ xs) × AllByRecursion (λ (w : Term). AllAbove (monomial_times t.monomial w.monomial) ss) (drop k us)
+    old = o h i f d
+
+    own : AllByRecursion (λ (w : Term). AllAbove (monomial_times t.monomial w.monomial) ss) (u ∷ drop (k + 1) us)
+    own = subst (AllByRecursion (λ (w : Term). AllAbove (monomial_times t.monomial w.monomial) ss)) next old.1
+
+    low : IsFalling (u ∷ drop (k + 1) us)
+    low = subst IsFalling next (falling_from us k f)
+
+    ones : AllMonomials (u ∷ drop (k + 1) us)
+    ones = subst AllMonomials next (all_from (λ (w : Term). IsMonomial w.monomial) us k i)
+
+    each : (ws : List Term) → AllByRecursion (λ (w : Term). monomial_cmp w.monomial u.monomial ≡ Less) ws → AllMonomials ws → AllByRecursion (λ (w : Term). AllAbove (monomial_times t.monomial w.monomial) ts) ws
+    each [] b g = tt
+    each (w ∷ ws) b g = (p.above (monomial_times t.monomial w.monomial) (monomial_cmp-times t.monomial w.monomial u.monomial h.powers g.0.powers ones.0.powers b.0) own.0, each ws b.1 g.1)
+
+pub OrderedPair-end : (t : Term) (us : List Term) (k : ℕ) (fs ss xs zs : List Share) → OrderedPair t us k fs ss xs → zs ≡ ss ++ xs → IsMonomial t.monomial → AllMonomials us → IsFalling us → IsDescending fs → IsDescending zs
+unfolding OrderedPair
+OrderedPair-end t us k fs ss xs zs o e h i f d = subst IsDescending (sym e) (o h i f d).0
 
 -- the share of a contribution, put among others
-pub Stands-put : (b : Bool) (t u : Term) (ss zs : List Share) (s : Share) (cs : List Term) → IsMerged ss (s ∷ []) zs → s.monomial ≡ monomial_times t.monomial u.monomial → Agree s.weight s.sum (unsigned_abs (signed b (t.coeff *ℤ u.coeff))) (signed b (t.coeff *ℤ u.coeff)) → Stands ss cs → Stands zs (cs ++ signed_row b t (u ∷ []))
+pub Stands-put : (b : Bool) (t u : Term) (ss zs : List Share) (s : Share) (cs : List Term) → StandsForBoth zs ss (s ∷ []) → s.monomial ≡ monomial_times t.monomial u.monomial → Agree s.weight s.sum (unsigned_abs (signed b (t.coeff *ℤ u.coeff))) (signed b (t.coeff *ℤ u.coeff)) → Stands ss cs → Stands zs (cs ++ signed_row b t (u ∷ []))
 Stands-put b t u ss zs s cs g e a st =
-    rw (row_one b t u) (Stands-both zs ss (s ∷ []) cs (record { monomial = monomial_times t.monomial u.monomial; coeff = signed b (t.coeff *ℤ u.coeff) } ∷ []) g.both st (Stands-one s _ e a))
+    rw (row_one b t u) (Stands-both zs ss (s ∷ []) cs (record { monomial = monomial_times t.monomial u.monomial; coeff = signed b (t.coeff *ℤ u.coeff) } ∷ []) g st (Stands-one s _ e a))
 
 -- how far the row of a second term has come, put among other contributions
 pub record RowedAfter (b : Bool) (cs : List Term) (t : Term) (us : List Term) (k : ℕ) (old now : Option ℕ) (ss : List Share) : Type 0 where

@@ -1,5 +1,5 @@
 -- Shares: sums of contributions to one monomial, and what they stand for.
-use Rattle.std.specs.Prelude.{◌≡◌, ◌<◌, ◌≤◌, ℕ, ◌+◌, ◌⊎◌, if◌then◌else◌, ℤ, pos, ◌+ℤ◌, List, [], ◌∷◌, ◌++◌, length, take, drop, slice_index_or}
+use Rattle.std.specs.Prelude.{◌≡◌, ◌<◌, ◌≤◌, ℕ, ◌+◌, ◌⊎◌, Bool, true, false, if◌then◌else◌, ℤ, pos, ◌+ℤ◌, List, [], ◌∷◌, ◌++◌, length}
 use Rattle.std.specs.List.{AllByRecursion}
 use Rattle.std.specs.Ordering.{is_eq}
 use Rattle.std.specs.declared.cmp.Ordering.TheVariants.{Less}
@@ -10,8 +10,6 @@ use Rattle.sparse_poly.specs.declared.entry.Share.{Share}
 use Rattle.sparse_poly.specs.declared.Term.{Term}
 use Rattle.sparse_poly.specs.declared.merging.Front.{Front}
 use Rattle.sparse_poly.specs.declared.merging.Front.TheVariants.{Neither, First, Second, Both}
-use Rattle.sparse_poly.specs.declared.merging.Place.{Place}
-use Rattle.sparse_poly.specs.declared.merging.Place.TheVariants.{At, After}
 use Rattle.sparse_poly.specs.Polynomials.{coefficient, weight}
 use Rattle.sparse_poly.specs.Contributions.{max_coeff, IsPoly}
 use Rattle.sparse_poly.specs.declared.PolyFault.{PolyFault}
@@ -41,6 +39,10 @@ StandsForBoth ss xs ys = (m : List (ℕ × ℕ)) → Agree (sweight ss m) (ssum 
 -- each share is below a monomial
 abbrev pub AllBelow : List (ℕ × ℕ) → List Share → Type 0
 AllBelow m xs = AllByRecursion (λ (x : Share). monomial_cmp x.monomial m ≡ Less) xs
+
+-- each share is above a monomial
+abbrev pub AllAbove : List (ℕ × ℕ) → List Share → Type 0
+AllAbove m xs = AllByRecursion (λ (x : Share). monomial_cmp m x.monomial ≡ Less) xs
 
 -- the monomials fall strictly
 abbrev pub IsDescending : List Share → Type 0
@@ -76,10 +78,24 @@ pub record IsMerged (xs ys ss : List Share) : Type 0 where
   pub both : StandsForBoth ss xs ys
   pub falling : IsDescending xs → IsDescending ys → IsDescending ss
 
--- where a monomial stands in a falling list: at that share, or after so many
-abbrev pub IsPlace : List Share → List (ℕ × ℕ) → Place → Type 0
-IsPlace xs m (At k) = (k < length xs) × ((x : Share) × (x ≡ slice_index_or xs k x) × (x.monomial ≡ m))
-IsPlace xs m (After k) = (k ≤ length xs) × AllBelow m (drop k xs) × (IsDescending xs → AllByRecursion (λ (x : Share). monomial_cmp m x.monomial ≡ Less) (take k xs))
+-- a share was moved from the front of a list to the end of another
+abbrev pub IsFrontMoved : List Share → List Share → List Share → List Share → Type 0
+IsFrontMoved ss xs ts ys = (us : List Share) (x : Share) → xs ≡ x ∷ us → (ts ≡ ss ++ x ∷ []) × (ys ≡ us)
+
+-- shares above a monomial were moved from the front of a list to the end of another
+pub record IsMoved (m : List (ℕ × ℕ)) (ss xs ts ys : List Share) : Type 0 where
+  pub list : ts ++ ys ≡ ss ++ xs
+  pub above : AllAbove m ss → AllAbove m ts
+
+-- whether the front of a list is of a monomial; if not, it is below
+abbrev pub IsFound : List Share → List (ℕ × ℕ) → Bool → Type 0
+IsFound xs m true = (us : List Share) (x : Share) → xs ≡ x ∷ us → x.monomial ≡ m
+IsFound xs m false = IsDescending xs → AllBelow m xs
+
+-- a share of a monomial was put into a falling list in two parts, of which the first one holds what is above it, and then it too
+pub record KeepsOrder (m : List (ℕ × ℕ)) (ss xs ts ys : List Share) : Type 0 where
+  pub falling : IsDescending (ss ++ xs) → AllAbove m ss → IsDescending (ts ++ ys)
+  pub above : (k : List (ℕ × ℕ)) → monomial_cmp k m ≡ Less → AllAbove m ss → AllAbove k ts
 
 -- each monomial of a polynomial's terms is one
 abbrev pub AllMonomials : List Term → Type 0

@@ -1,6 +1,6 @@
 //! The merge of two lists of shares that fall by their monomials, with early sums.
 ghost use Rattle.std.specs.Prelude.{◌≡◌, ◌+◌, ◌+ℤ◌, List, [], ◌∷◌, ◌++◌, IfOk, OnOk};
-ghost use Rattle.sparse_poly.specs.Standing.{Agree, IsNext, IsFront, IsMerged, IsSorted, IsPlace};
+ghost use Rattle.sparse_poly.specs.Standing.{Agree, StandsForBoth, KeepsOrder, IsMoved, IsFrontMoved, IsFound, IsTaken, IsNext, IsFront, IsMerged, IsSorted};
 
 use crate::entry::Share;
 use crate::weighing::joined_sum;
@@ -111,41 +111,71 @@ pub fn next_share(first: &mut VecDeque<Share>, second: &mut VecDeque<Share>) -> 
     }
 }
 
-// Where a monomial stands in a falling list: at the share of this number, or after so many.
-enum Place {
-    At(usize),
-    After(usize),
+/// Puts a share into a falling list in two parts, the shares that are done and those that follow. There it is joined to the one of its monomial. The shares above it are done then, and so is its own.
+pub fn put(
+    first: &mut VecDeque<Share>,
+    shares: &mut Vec<Share>,
+    share: Share,
+) -> Result<(), AllocError>
+    ensures sums { OnOk result (StandsForBoth (shares.new.items ++ first.new.items) (shares.old.items ++ first.old.items) (share ∷ [])) }
+    ensures order { OnOk result (KeepsOrder share.monomial shares.old.items first.old.items shares.new.items first.new.items) }
+{
+    let found = take_above(first, shares, &share.monomial)?;
+    shares.push(with_front(first, found, share))?;
+    Ok(())
 }
 
-// The place is looked for from the end, where it mostly is.
-fn place_of(shares: &[Share], monomial: &Monomial) -> Place
-    ensures { IsPlace shares.now monomial.now result }
+// Moves the shares above a monomial from the front of a list to the end of another. Tells whether the next one is of that monomial.
+fn take_above(
+    first: &mut VecDeque<Share>,
+    shares: &mut Vec<Share>,
+    monomial: &Monomial,
+) -> Result<bool, AllocError>
+    ensures moved { OnOk result (IsMoved monomial.now shares.old.items first.old.items shares.new.items first.new.items) }
+    ensures front { IfOk result (IsFound first.new.items monomial.now) }
 {
-    let mut place = shares.len();
-    'below: while place > 0 {
-        match shares[place - 1].monomial.order(monomial) {
-            Ordering::Less => place -= 1,
-            Ordering::Equal => return Place::At(place - 1),
-            Ordering::Greater => return Place::After(place),
+    'above: while let Some(x) = first.front() {
+        match x.monomial.order(monomial) {
+            Ordering::Less => return Ok(false),
+            Ordering::Equal => return Ok(true),
+            Ordering::Greater => take_front(first, shares)?,
         }
     }
-    Place::After(0)
+    Ok(false)
 }
 
-/// Puts a share into a falling list, where it is joined to the one of its monomial.
-pub fn put(shares: &mut Vec<Share>, share: Share) -> Result<(), AllocError>
-    ensures { OnOk result (IsMerged shares.old.items (share ∷ []) shares.new.items) }
+// Moves one share from the front of a list to the end of another.
+fn take_front(first: &mut VecDeque<Share>, shares: &mut Vec<Share>) -> Result<(), AllocError>
+    ensures { OnOk result (IsFrontMoved shares.old.items first.old.items shares.new.items first.new.items) }
 {
-    match place_of(shares, &share.monomial) {
-        Place::At(place) => {
-            let total = joined_sum(shares[place].total(), share.total());
-            shares[place] = Share {
-                monomial: share.monomial,
-                sum: total.value,
-                weight: total.weight,
-            };
-        }
-        Place::After(place) => shares.insert(place, share)?,
+    if let Some(x) = first.pop_front() {
+        shares.push(x)?;
+    }
+    Ok(())
+}
+
+// A share, joined to the front of a list if that is of its monomial.
+fn with_front(first: &mut VecDeque<Share>, found: bool, share: Share) -> Share
+    requires { IsFound first.now.items share.monomial found }
+    ensures taken { IsTaken first.old.items (share ∷ []) first.new.items [] result }
+    ensures monomial { result.monomial ≡ share.monomial }
+{
+    if !found {
+        return share;
+    }
+    match first.pop_front() {
+        Some(x) => joined(x, share),
+        None => share,
+    }
+}
+
+/// Moves what is left of a list to the end of another.
+pub fn take_rest(first: VecDeque<Share>, shares: &mut Vec<Share>) -> Result<(), AllocError>
+    ensures { OnOk result (shares.new.items ≡ shares.old.items ++ first.items) }
+{
+    let mut first = first;
+    'rest: while let Some(x) = first.pop_front() {
+        shares.push(x)?;
     }
     Ok(())
 }

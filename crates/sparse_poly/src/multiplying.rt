@@ -1,22 +1,20 @@
 //! Products of polynomials as shares.
 ghost use Rattle.std.specs.Prelude.{◌≡◌, ◌≤◌, ◌*ℤ◌, unsigned_abs, List, [], ◌∷◌, ◌++◌, OnOk, IfOk, IfErr, MatchResult};
 ghost use Rattle.std.specs.declared.option.Option.TheVariants.{None, Some};
-ghost use Rattle.monomial.specs.Monomials.{IsMonomial};
+ghost use Rattle.monomial.specs.Monomials.{monomial_times, IsMonomial};
 ghost use Rattle.sparse_poly.specs.Contributions.{max_coeff, signed, kept, signed_row, signed_products, higher, degree_of, contributions, IsFalling, IsPoly, IsResult, IsFault, IsNoDegree};
 ghost use Rattle.sparse_poly.specs.Polynomials.{products};
-ghost use Rattle.sparse_poly.specs.Standing.{Agree, Stands, AllMonomials, IsDescending, IsAdded};
+ghost use Rattle.sparse_poly.specs.Standing.{Agree, Stands, AllMonomials, IsDescending, IsAdded, KeepsOrder};
 
 use crate::entry::Share;
 use crate::layout::{is_laid, layout_for, without_layout};
-use crate::merging::{merge, put, sorted};
+use crate::merging::{merge, put, sorted, take_rest};
 use crate::packing::{packed_combination, packed_multiplication};
 use crate::squeezing::squeeze;
 use crate::{PolyFault, Term};
 use monomial::{MonoFault, Monomial};
 use std::alloc::{AllocError, Global};
-
-// The most terms whose contributions are put in their places one by one.
-const FEW: usize = 4;
+use std::collections::VecDeque;
 
 /// The terms of `l*q - a*p`.
 pub fn combined(
@@ -150,7 +148,7 @@ fn copied(alloc: Global, terms: &[Term]) -> Result<Vec<Share>, AllocError>
         coeff: 1,
     };
     let mut high = None;
-    match row_of(alloc, terms.len(), &one, terms, false, &mut high) {
+    match row_of(alloc, &one, terms, false, &mut high) {
         Ok(shares) => Ok(shares),
         Err(e) => Err(e),
     }
@@ -244,10 +242,9 @@ fn push_share(
     Ok(())
 }
 
-// The contributions of one term, in falling order where the terms fall, with room for some number of shares.
+// The contributions of one term, in falling order where the terms fall.
 fn row_of(
     alloc: Global,
-    room: usize,
     t: &Term,
     us: &[Term],
     minus: bool,
@@ -257,28 +254,29 @@ fn row_of(
     ensures sums { IfOk result (λ v. high.new ≡ None → Stands v.items (signed_row minus t.now us.now)) }
     ensures order { IfOk result (λ v. IsMonomial t.now.monomial → AllMonomials us.now → IsFalling us.now → IsDescending v.items) }
 {
-    let mut shares = Vec::with_capacity(alloc, room)?;
+    let mut shares = Vec::with_capacity(alloc, us.len())?;
     for u in us {
         push_share(t, u, minus, &mut shares, high)?;
     }
     Ok(shares)
 }
 
-// Puts one contribution into its place.
+// Puts one contribution into its place among those of a first row, of which some are done.
 fn put_share(
     t: &Term,
     u: &Term,
     minus: bool,
+    first: &mut VecDeque<Share>,
     shares: &mut Vec<Share>,
     high: &mut Option<u32>,
 ) -> Result<(), AllocError>
     ensures high { OnOk result (high.new ≡ higher high.old (degree_of (signed_row minus t.now (u.now ∷ [])))) }
-    ensures sums { OnOk result (high.new ≡ None → (cs : _) → Stands shares.old.items cs → Stands shares.new.items (cs ++ signed_row minus t.now (u.now ∷ []))) }
-    ensures order { OnOk result (IsDescending shares.old.items → IsDescending shares.new.items) }
+    ensures sums { OnOk result (high.new ≡ None → (cs : _) → Stands (shares.old.items ++ first.old.items) cs → Stands (shares.new.items ++ first.new.items) (cs ++ signed_row minus t.now (u.now ∷ []))) }
+    ensures order { OnOk result (KeepsOrder (monomial_times t.now.monomial u.now.monomial) shares.old.items first.old.items shares.new.items first.new.items) }
 {
     match t.monomial.times(&u.monomial) {
         Ok(monomial) => {
-            put(shares, share_of(monomial, t.coeff, u.coeff, minus))?;
+            put(first, shares, share_of(monomial, t.coeff, u.coeff, minus))?;
         }
         Err(MonoFault::Degree { var }) => {
             *high = greater(*high, var);
@@ -288,7 +286,7 @@ fn put_share(
     Ok(())
 }
 
-// The contributions of two terms. Those of the second are put among those of the first, so there should be few.
+// The contributions of two terms: those of the first, into which those of the second are merged as they come.
 fn pair_of(
     alloc: Global,
     t: &Term,
@@ -301,10 +299,13 @@ fn pair_of(
     ensures sums { IfOk result (λ v. high.new ≡ None → Stands v.items (signed_products minus (t.now ∷ s.now ∷ []) us.now)) }
     ensures order { IfOk result (λ v. IsMonomial t.now.monomial → AllMonomials us.now → IsFalling us.now → IsDescending v.items) }
 {
-    let mut shares = row_of(alloc, us.len().saturating_add(us.len()), t, us, minus, high)?;
+    let _powers = s.monomial.len();
+    let mut first = VecDeque::from(row_of(alloc, t, us, minus, high)?);
+    let mut shares = Vec::with_capacity(alloc, first.len().saturating_add(us.len()))?;
     for u in us {
-        put_share(s, u, minus, &mut shares, high)?;
+        put_share(s, u, minus, &mut first, &mut shares, high)?;
     }
+    take_rest(first, &mut shares)?;
     Ok(shares)
 }
 
@@ -325,9 +326,9 @@ fn part(
         return Ok(Vec::new(alloc));
     }
     if n == 1 {
-        return row_of(alloc, us.len(), &ts[0], us, minus, high);
+        return row_of(alloc, &ts[0], us, minus, high);
     }
-    if n == 2 && us.len() <= FEW {
+    if n == 2 {
         return pair_of(alloc, &ts[0], &ts[1], us, minus, high);
     }
     let first = part(alloc, &ts[..n / 2], us, minus, high)?;
