@@ -6,7 +6,7 @@ use Rattle.std.specs.declared.cmp.Ordering.TheVariants.{Less}
 use Rattle.monomial.specs.Monomials.{monomial_cmp}
 use Rattle.monomial.proofs.Total.{monomial_cmp-IsTotalOrder}
 use Rattle.sparse_poly.specs.declared.entry.Share.{Share}
-use Rattle.sparse_poly.specs.Standing.{AllBelow, IsDescending}
+use Rattle.sparse_poly.specs.Standing.{AllBelow, AllAbove, IsDescending}
 
 pub all_front : {X : Type 0} → (P : X → Type 0) (xs ys : List X) → AllByRecursion P (xs ++ ys) → AllByRecursion P xs
 all_front P [] ys h = tt
@@ -28,10 +28,6 @@ pub all_map : {X : Type 0} → (P Q : X → Type 0) (xs : List X) → ((x : X) �
 all_map P Q [] f h = tt
 all_map P Q (x ∷ xs) f h = (f x h.0, all_map P Q xs f h.1)
 
--- each share is above a monomial
-abbrev pub AllAbove : List (ℕ × ℕ) → List Share → Type 0
-AllAbove m xs = AllByRecursion (λ (x : Share). monomial_cmp m x.monomial ≡ Less) xs
-
 pub descending_more : (xs : List Share) (t : Share) → IsDescending xs → AllAbove t.monomial xs → IsDescending (xs ++ t ∷ [])
 descending_more [] t h b = (tt, tt)
 descending_more (x ∷ xs) t h b = (all_more (λ (y : Share). monomial_cmp y.monomial x.monomial ≡ Less) xs t h.0 b.0, descending_more xs t h.1 b.1)
@@ -46,3 +42,11 @@ below_through [] first k e l d = tt
 below_through (x ∷ xs) first k e l d =
     let own : monomial_cmp x.monomial k ≡ Less = ap (λ (u : Share). monomial_cmp u.monomial k) (sym e) ∙ l in
     (own, below_more x.monomial k xs own d.0)
+
+pub all_both : {X : Type 0} → (P : X → Type 0) (xs ys : List X) → AllByRecursion P xs → AllByRecursion P ys → AllByRecursion P (xs ++ ys)
+all_both P [] ys h i = i
+all_both P (x ∷ xs) ys h i = (h.0, all_both P xs ys h.1 i)
+
+-- what is above a monomial is above a lower one
+pub above_less : (k m : List (ℕ × ℕ)) (xs : List Share) → monomial_cmp k m ≡ Less → AllAbove m xs → AllAbove k xs
+above_less k m xs l b = all_map (λ (x : Share). monomial_cmp m x.monomial ≡ Less) (λ (x : Share). monomial_cmp k x.monomial ≡ Less) xs (λ x h. monomial_cmp-IsTotalOrder.trans k m x.monomial l h) b

@@ -16,12 +16,12 @@ use Rattle.sparse_poly.specs.declared.PolyFault.{PolyFault}
 use Rattle.sparse_poly.specs.declared.PolyFault.TheVariants.{Degree, Heavy, OutOfMemory}
 use Rattle.sparse_poly.specs.Polynomials.{coefficient, weight, row}
 use Rattle.sparse_poly.specs.Contributions.{higher, degree_of, IsFalling, IsNoDegree}
-use Rattle.sparse_poly.specs.Standing.{ssum, sweight, Agree, Stands, IsDescending, IsAdded, AllMonomials, IsHeavyFault, IsMerged}
+use Rattle.sparse_poly.specs.Standing.{ssum, sweight, Agree, Stands, AllAbove, IsDescending, IsAdded, AllMonomials, IsHeavyFault, IsMerged}
 use Rattle.sparse_poly.proofs.Adding.{take_one, degree_of-append}
 use Rattle.sparse_poly.proofs.Evaluation.{coefficient-append, weight-append}
 use Rattle.sparse_poly.proofs.Sums.{ssum-append, sweight-append}
 use Rattle.sparse_poly.proofs.Standings.{agree_plus, agree_through, same_agrees, Stands-one}
-use Rattle.sparse_poly.proofs.Descending.{AllAbove, all_front, all_back, all_last, all_more, descending_more}
+use Rattle.sparse_poly.proofs.Descending.{all_front, all_back, all_last, all_more, descending_more}
 
 pub all_at : (P : Term → Type 0) (us : List Term) (k : ℕ) (u : Term) → k < length us → u ≡ slice_index_or us k u → AllByRecursion P us → P u
 all_at P [] k u l e h = absurd (omega arith)

@@ -114,7 +114,7 @@ pub Stands-push : (ss : List Share) (s : Share) (cs : List Term) (t : Term) → 
 Stands-push ss s cs t a b m =
     agree_through _ _ _ _ _ _ (same_agrees _ _ _ _ (sweight-append m ss (s ∷ [])) (ssum-append m ss (s ∷ []))) (agree_through _ _ _ _ _ _ (agree_plus _ _ _ _ _ _ _ _ (a m) (b m)) (same_agrees _ _ _ _ (sym (weight-append m cs (t ∷ []))) (sym (coefficient-append m cs (t ∷ [])))))
 
-row_one : (b : Bool) (t u : Term) → signed_row b t (u ∷ []) ≡ record { monomial = monomial_times t.monomial u.monomial; coeff = signed b (t.coeff *ℤ u.coeff) } ∷ []
+pub row_one : (b : Bool) (t u : Term) → signed_row b t (u ∷ []) ≡ record { monomial = monomial_times t.monomial u.monomial; coeff = signed b (t.coeff *ℤ u.coeff) } ∷ []
 row_one false t u = refl
 row_one true t u = refl
 

@@ -1,5 +1,5 @@
 -- Shares: sums of contributions to one monomial, and what they stand for.
-use Rattle.std.specs.Prelude.{◌≡◌, ◌<◌, ◌≤◌, ℕ, ◌+◌, ◌⊎◌, if◌then◌else◌, ℤ, pos, ◌+ℤ◌, List, [], ◌∷◌, ◌++◌, length}
+use Rattle.std.specs.Prelude.{◌≡◌, ◌<◌, ◌≤◌, ℕ, ◌+◌, ◌⊎◌, Bool, true, false, if◌then◌else◌, ℤ, pos, ◌+ℤ◌, List, [], ◌∷◌, ◌++◌, length}
 use Rattle.std.specs.List.{AllByRecursion}
 use Rattle.std.specs.Ordering.{is_eq}
 use Rattle.std.specs.declared.cmp.Ordering.TheVariants.{Less}
@@ -40,6 +40,10 @@ StandsForBoth ss xs ys = (m : List (ℕ × ℕ)) → Agree (sweight ss m) (ssum 
 abbrev pub AllBelow : List (ℕ × ℕ) → List Share → Type 0
 AllBelow m xs = AllByRecursion (λ (x : Share). monomial_cmp x.monomial m ≡ Less) xs
 
+-- each share is above a monomial
+abbrev pub AllAbove : List (ℕ × ℕ) → List Share → Type 0
+AllAbove m xs = AllByRecursion (λ (x : Share). monomial_cmp m x.monomial ≡ Less) xs
+
 -- the monomials fall strictly
 abbrev pub IsDescending : List Share → Type 0
 IsDescending [] = Unit {0}
@@ -73,6 +77,25 @@ pub record IsSorted (xs ss : List Share) : Type 0 where
 pub record IsMerged (xs ys ss : List Share) : Type 0 where
   pub both : StandsForBoth ss xs ys
   pub falling : IsDescending xs → IsDescending ys → IsDescending ss
+
+-- a share was moved from the front of a list to the end of another
+abbrev pub IsFrontMoved : List Share → List Share → List Share → List Share → Type 0
+IsFrontMoved ss xs ts ys = (us : List Share) (x : Share) → xs ≡ x ∷ us → (ts ≡ ss ++ x ∷ []) × (ys ≡ us)
+
+-- shares above a monomial were moved from the front of a list to the end of another
+pub record IsMoved (m : List (ℕ × ℕ)) (ss xs ts ys : List Share) : Type 0 where
+  pub list : ts ++ ys ≡ ss ++ xs
+  pub above : AllAbove m ss → AllAbove m ts
+
+-- whether the front of a list is of a monomial; if not, it is below
+abbrev pub IsFound : List Share → List (ℕ × ℕ) → Bool → Type 0
+IsFound xs m true = (us : List Share) (x : Share) → xs ≡ x ∷ us → x.monomial ≡ m
+IsFound xs m false = IsDescending xs → AllBelow m xs
+
+-- a share of a monomial was put into a falling list in two parts, of which the first one holds what is above it, and then it too
+pub record KeepsOrder (m : List (ℕ × ℕ)) (ss xs ts ys : List Share) : Type 0 where
+  pub falling : IsDescending (ss ++ xs) → AllAbove m ss → IsDescending (ts ++ ys)
+  pub above : (k : List (ℕ × ℕ)) → monomial_cmp k m ≡ Less → AllAbove m ss → AllAbove k ts
 
 -- each monomial of a polynomial's terms is one
 abbrev pub AllMonomials : List Term → Type 0

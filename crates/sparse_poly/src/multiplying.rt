@@ -1,19 +1,20 @@
 //! Products of polynomials as shares.
 ghost use Rattle.std.specs.Prelude.{◌≡◌, ◌≤◌, ◌*ℤ◌, unsigned_abs, List, [], ◌∷◌, ◌++◌, OnOk, IfOk, IfErr, MatchResult};
 ghost use Rattle.std.specs.declared.option.Option.TheVariants.{None, Some};
-ghost use Rattle.monomial.specs.Monomials.{IsMonomial};
+ghost use Rattle.monomial.specs.Monomials.{monomial_times, IsMonomial};
 ghost use Rattle.sparse_poly.specs.Contributions.{max_coeff, signed, kept, signed_row, signed_products, higher, degree_of, contributions, IsFalling, IsPoly, IsResult, IsFault, IsNoDegree};
 ghost use Rattle.sparse_poly.specs.Polynomials.{products};
-ghost use Rattle.sparse_poly.specs.Standing.{Agree, Stands, AllMonomials, IsDescending, IsAdded};
+ghost use Rattle.sparse_poly.specs.Standing.{Agree, Stands, AllMonomials, IsDescending, IsAdded, KeepsOrder};
 
 use crate::entry::Share;
 use crate::layout::{is_laid, layout_for, without_layout};
-use crate::merging::{merge, sorted};
+use crate::merging::{merge, put, sorted, take_rest};
 use crate::packing::{packed_combination, packed_multiplication};
 use crate::squeezing::squeeze;
 use crate::{PolyFault, Term};
 use monomial::{MonoFault, Monomial};
 use std::alloc::{AllocError, Global};
+use std::collections::VecDeque;
 
 /// The terms of `l*q - a*p`.
 pub fn combined(
@@ -260,6 +261,54 @@ fn row_of(
     Ok(shares)
 }
 
+// Puts one contribution into its place among those of a first row, of which some are done.
+fn put_share(
+    t: &Term,
+    u: &Term,
+    minus: bool,
+    first: &mut VecDeque<Share>,
+    shares: &mut Vec<Share>,
+    high: &mut Option<u32>,
+) -> Result<(), AllocError>
+    ensures high { OnOk result (high.new ≡ higher high.old (degree_of (signed_row minus t.now (u.now ∷ [])))) }
+    ensures sums { OnOk result (high.new ≡ None → (cs : _) → Stands (shares.old.items ++ first.old.items) cs → Stands (shares.new.items ++ first.new.items) (cs ++ signed_row minus t.now (u.now ∷ []))) }
+    ensures order { OnOk result (KeepsOrder (monomial_times t.now.monomial u.now.monomial) shares.old.items first.old.items shares.new.items first.new.items) }
+{
+    match t.monomial.times(&u.monomial) {
+        Ok(monomial) => {
+            put(first, shares, share_of(monomial, t.coeff, u.coeff, minus))?;
+        }
+        Err(MonoFault::Degree { var }) => {
+            *high = greater(*high, var);
+        }
+        Err(MonoFault::OutOfMemory) => return Err(AllocError),
+    }
+    Ok(())
+}
+
+// The contributions of two terms: those of the first, into which those of the second are merged as they come.
+fn pair_of(
+    alloc: Global,
+    t: &Term,
+    s: &Term,
+    us: &[Term],
+    minus: bool,
+    high: &mut Option<u32>,
+) -> Result<Vec<Share>, AllocError>
+    ensures high { OnOk result (high.new ≡ higher high.old (degree_of (signed_products minus (t.now ∷ s.now ∷ []) us.now))) }
+    ensures sums { IfOk result (λ v. high.new ≡ None → Stands v.items (signed_products minus (t.now ∷ s.now ∷ []) us.now)) }
+    ensures order { IfOk result (λ v. IsMonomial t.now.monomial → AllMonomials us.now → IsFalling us.now → IsDescending v.items) }
+{
+    let _powers = s.monomial.len();
+    let mut first = VecDeque::from(row_of(alloc, t, us, minus, high)?);
+    let mut shares = Vec::with_capacity(alloc, first.len().saturating_add(us.len()))?;
+    for u in us {
+        put_share(s, u, minus, &mut first, &mut shares, high)?;
+    }
+    take_rest(first, &mut shares)?;
+    Ok(shares)
+}
+
 // The contributions to a product, by halves of the first factor.
 fn part(
     alloc: Global,
@@ -278,6 +327,9 @@ fn part(
     }
     if n == 1 {
         return row_of(alloc, &ts[0], us, minus, high);
+    }
+    if n == 2 {
+        return pair_of(alloc, &ts[0], &ts[1], us, minus, high);
     }
     let first = part(alloc, &ts[..n / 2], us, minus, high)?;
     let second = part(alloc, &ts[n / 2..], us, minus, high)?;
