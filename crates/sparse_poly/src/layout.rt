@@ -26,11 +26,7 @@ pub fn layout_for(alloc: Global, l: &[Term], q: &[Term], a: &[Term], p: &[Term])
             return Some(layout);
         }
     }
-    let contributions = (l.len().saturating_mul(q.len())).saturating_add(
-        a.len().saturating_mul(p.len()),
-    );
-    let terms = (l.len().saturating_add(q.len())).saturating_add(a.len().saturating_add(p.len()));
-    if contributions / 3 < terms {
+    if are_few(l, q, a, p) {
         return None;
     }
     let layout = common_layout(alloc, l, q, a, p)?;
@@ -39,6 +35,16 @@ pub fn layout_for(alloc: Global, l: &[Term], q: &[Term], a: &[Term], p: &[Term])
     } else {
         None
     }
+}
+
+/// Whether there are less than three contributions to `l*q - a*p` for each term of the factors.
+#[inline(always)]
+pub fn are_few(l: &[Term], q: &[Term], a: &[Term], p: &[Term]) -> bool {
+    let contributions = (l.len().saturating_mul(q.len())).saturating_add(
+        a.len().saturating_mul(p.len()),
+    );
+    let terms = (l.len().saturating_add(q.len())).saturating_add(a.len().saturating_add(p.len()));
+    contributions / 3 < terms
 }
 
 /// The same terms, which are stored as words of one layout where they fit one. One or two terms are so only where their variables are below
@@ -69,6 +75,7 @@ fn has_low_variables(terms: &[Term]) -> bool {
 }
 
 /// Whether the first monomial is stored as a word.
+#[inline(always)]
 pub fn is_laid(terms: &[Term]) -> bool {
     stored_layout(terms).is_some()
 }

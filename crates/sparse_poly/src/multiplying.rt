@@ -7,7 +7,7 @@ ghost use Rattle.sparse_poly.specs.Polynomials.{products};
 ghost use Rattle.sparse_poly.specs.Standing.{Agree, Stands, AllMonomials, IsDescending, IsAdded, KeepsOrder};
 
 use crate::entry::Share;
-use crate::layout::{is_laid, layout_for, without_layout};
+use crate::layout::{are_few, is_laid, layout_for, without_layout};
 use crate::merging::{merge, put, sorted, take_rest};
 use crate::packing::{packed_combination, packed_multiplication};
 use crate::squeezing::squeeze;
@@ -30,10 +30,14 @@ pub fn combined(
     requires p_poly { IsPoly p.now }
     ensures { MatchResult result (λ v. IsResult (contributions l.now q.now a.now p.now) v.items) (IsFault (contributions l.now q.now a.now p.now)) }
 {
+    let laid = is_laid(l) || is_laid(q) || is_laid(a) || is_laid(p);
+    if !laid && are_few(l, q, a, p) {
+        return combined_by_shares(alloc, l, q, a, p);
+    }
     if let Some(layout) = layout_for(alloc, l, q, a, p) {
         return packed_combination(alloc, &layout, l, q, a, p);
     }
-    if is_laid(l) || is_laid(q) || is_laid(a) || is_laid(p) {
+    if laid {
         let l = without_layout(alloc, l)?;
         let q = without_layout(alloc, q)?;
         let a = without_layout(alloc, a)?;
@@ -75,10 +79,14 @@ pub fn multiplied(alloc: Global, first: &[Term], second: &[Term]) -> Result<Vec<
     requires second_poly { IsPoly second.now }
     ensures { MatchResult result (λ v. IsResult (products first.now second.now) v.items) (IsFault (products first.now second.now)) }
 {
+    let laid = is_laid(first) || is_laid(second);
+    if !laid && are_few(first, second, &[], &[]) {
+        return multiplied_by_shares(alloc, first, second);
+    }
     if let Some(layout) = layout_for(alloc, first, second, &[], &[]) {
         return packed_multiplication(alloc, &layout, first, second);
     }
-    if is_laid(first) || is_laid(second) {
+    if laid {
         let first = without_layout(alloc, first)?;
         let second = without_layout(alloc, second)?;
         return multiplied_by_shares(alloc, &first, &second);
@@ -219,6 +227,7 @@ fn greater(high: Option<u32>, var: u32) -> Option<u32>
 }
 
 // Adds one contribution.
+#[inline(always)]
 fn push_share(
     t: &Term,
     u: &Term,
@@ -243,6 +252,7 @@ fn push_share(
 }
 
 // The contributions of one term, in falling order where the terms fall.
+#[inline(always)]
 fn row_of(
     alloc: Global,
     t: &Term,
