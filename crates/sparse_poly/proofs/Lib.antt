@@ -20,5 +20,5 @@ mod Placed
 pub mod Places
 pub mod Packings
 pub mod PackedTerms
-pub mod PackedSqueezes
+pub mod PackedSources
 pub mod PackedPairs

@@ -1,5 +1,5 @@
 -- Packed terms of a layout: what their products are read as.
-use Rattle.std.specs.Prelude.{◌≡◌, ◌<◌, ◌≤◌, ℕ, ◌+◌, ◌*◌, ◌^◌, Bool, true, false, List, [], ◌∷◌, ◌++◌, length, take, slice_index_or, refl}
+use Rattle.std.specs.Prelude.{◌≡◌, ◌<◌, ◌≤◌, ℕ, ◌+◌, ◌*◌, ◌^◌, Bool, true, false, List, [], ◌∷◌, ◌++◌, length, take, drop, slice_index_or, refl}
 use mathlib.Core.Logic.{◌⊎◌, inl, inr}
 use Rattle.std.proofs.Common.{arith, sym, ◌∙◌, ap, subst}
 use Rattle.std.proofs.lemmas.Bool.{cases_lt, cases_order}
@@ -20,12 +20,14 @@ use Rattle.sparse_poly.specs.Contributions.{signed_products, higher, degree_of, 
 use Rattle.sparse_poly.specs.Standing.{Stands, AllBelow, IsDescending}
 use Rattle.sparse_poly.specs.Packing.{AllFit}
 use Rattle.monomial.specs.Layouts.{AreFalling, IsLayout, word_of, monomial_of, FitsLayout}
-use Rattle.sparse_poly.specs.Packed.{term_read, terms_read, shares_read, term_words, share_words, AreProducts, AllPackedIn, IsPackedIn, AllUnder, AllHalves, row_shares, AreOrdered, IsPackedProduct}
+use Rattle.sparse_poly.specs.Packed.{term_read, terms_read, shares_read, term_words, share_words, AreProducts, AllPackedIn, IsPackedIn, AllUnder, AllHalves, IsPackedProduct, AreProductShares, IsSameInFewer}
 use Rattle.sparse_poly.proofs.Adding.{degree_of-append}
 use Rattle.sparse_poly.proofs.Descending.{all_map, all_more, all_front, all_back}
 use Rattle.monomial.proofs.Words.{word_of-times, word_half, monomial_of-word, IsPowers-monomial_of, IsMonomial-monomial_of, lower_monomial, fits_small, fits_known, fitting_monomial}
-use Rattle.sparse_poly.proofs.Places.{take_more, take_all}
-use Rattle.sparse_poly.proofs.Packings.{terms_read-append, halves_sums, product_none, product_shares}
+use Rattle.sparse_poly.proofs.Places.{take_more, take_all, drop_end}
+use Rattle.sparse_poly.proofs.PackedSources.{shares_read-append, under_both}
+use Rattle.sparse_poly.proofs.Packings.{terms_read-append, term_words-append, append_products, drop_at}
+use Rattle.sparse_poly.proofs.Standings.{agree_through, Stands-append}
 
 -- the first k terms, packed
 pub record PackedSoFar (vs : List ℕ) (ts : List Term) (k : ℕ) (out : List PackedTerm) : Type 0 where
@@ -140,58 +142,22 @@ halves_of : (vs : List ℕ) (ts : List PackedTerm) → AllPackedIn vs ts → All
 halves_of vs [] a = tt
 halves_of vs (t ∷ ts) a = (subst (λ w. w + w < 2 ^ (16 * length vs)) (sym a.0.word) (word_half vs (monomial_of vs t.word) (λ v. fits_small vs _ v a.0.fits)), halves_of vs ts a.1)
 
--- the product of two lists of packed terms, of which the first may be a part of more
-pub AreOrdered-product : (vs : List ℕ) (minus : Bool) (us : List Term) (ps qs : List PackedTerm) (ss : List PackedShare) → IsLayout vs → terms_read (monomial_of vs) qs ≡ us → AllPackedIn vs ps → AllPackedIn vs qs → IsFalling us → IsPackedProduct minus ps qs ss → AreOrdered vs ss
-AreOrdered-product vs minus us ps qs ss y f a b h g = record {
-  falling = g.falling (falling_words vs qs y b (subst IsFalling (sym f) h));
-  under = g.under (2 ^ (16 * length vs)) (halves_of vs ps a) (halves_of vs qs b);
-}
+-- the words of a polynomial fall
+pub words_fall : (vs : List ℕ) (us : List Term) (qs : List PackedTerm) → IsLayout vs → terms_read (monomial_of vs) qs ≡ us → AllPackedIn vs qs → IsFalling us → AreFalling (term_words qs)
+words_fall vs us qs y f b h = falling_words vs qs y b (subst IsFalling (sym f) h)
+
+-- what stands for the contributions to a product of packed terms
+pub shares_under : (vs : List ℕ) (minus : Bool) (ps qs : List PackedTerm) (ss : List PackedShare) → AllPackedIn vs ps → AllPackedIn vs qs → AreProductShares minus ps qs ss → AllUnder (2 ^ (16 * length vs)) (share_words ss)
+shares_under vs minus ps qs ss a b g = g.under (2 ^ (16 * length vs)) (halves_of vs ps a) (halves_of vs qs b)
 
 module _ (vs : List ℕ) (minus : Bool) (ts us : List Term) (ps qs : List PackedTerm) (y : IsLayout vs) (e : terms_read (monomial_of vs) ps ≡ ts) (f : terms_read (monomial_of vs) qs ≡ us) (a : AllPackedIn vs ps) (b : AllPackedIn vs qs) where
-  read_both : (ss : List Share) → Stands ss (signed_products minus (terms_read (monomial_of vs) ps) (terms_read (monomial_of vs) qs)) → Stands ss (signed_products minus ts us)
-  read_both ss h = subst (λ xs. Stands ss (signed_products minus xs us)) e (subst (λ xs. Stands ss (signed_products minus (terms_read (monomial_of vs) ps) xs)) f h)
-
-  pub product_stands : (ss : List PackedShare) → IsPackedProduct minus ps qs ss → Stands (shares_read (monomial_of vs) ss) (signed_products minus ts us)
-  product_stands ss g = read_both _ (g.sums (monomial_of vs) (are_products vs ps qs y a b))
-
-  pub halves_stand : (xs zs : List PackedTerm) (fs bs : List PackedShare) → ps ≡ xs ++ zs → IsPackedProduct minus xs qs fs → IsPackedProduct minus zs qs bs → Stands (shares_read (monomial_of vs) fs ++ shares_read (monomial_of vs) bs) (signed_products minus ts us)
-  halves_stand xs zs fs bs s g h = read_both _ (halves_sums minus ps qs xs zs fs bs s g h (monomial_of vs) (are_products vs ps qs y a b))
+  pub shares_stand : (ss : List PackedShare) → AreProductShares minus ps qs ss → Stands (shares_read (monomial_of vs) ss) (signed_products minus ts us)
+  shares_stand ss g =
+      subst (λ xs. Stands (shares_read (monomial_of vs) ss) (signed_products minus xs us)) e
+      (subst (λ xs. Stands (shares_read (monomial_of vs) ss) (signed_products minus (terms_read (monomial_of vs) ps) xs)) f (g.sums (monomial_of vs) (are_products vs ps qs y a b)))
 
   pub product_degree : degree_of (signed_products minus ts us) ≡ None
   product_degree = subst (λ xs. degree_of (signed_products minus xs us) ≡ None) e (subst (λ xs. degree_of (signed_products minus (terms_read (monomial_of vs) ps) xs) ≡ None) f (degree_of-signed minus _ _ (degree_of-products vs ps qs y a b)))
-
--- two lists of shares that add up to a product
-pub record AreHalves (vs : List ℕ) (ts us : List Term) (fs bs : List PackedShare) : Type 0 where
-  pub first : AreOrdered vs fs
-  pub second : AreOrdered vs bs
-  pub stands : Stands (shares_read (monomial_of vs) fs ++ shares_read (monomial_of vs) bs) (products ts us)
-  pub degree : degree_of (products ts us) ≡ None
-
-module _ (vs : List ℕ) (ts us : List Term) (ps qs : List PackedTerm) (y : IsLayout vs) (e : terms_read (monomial_of vs) ps ≡ ts) (f : terms_read (monomial_of vs) qs ≡ us) (a : AllPackedIn vs ps) (b : AllPackedIn vs qs) (h : IsFalling us) where
-  pub AreHalves-made : (xs zs : List PackedTerm) (fs bs : List PackedShare) → ps ≡ xs ++ zs → IsPackedProduct false xs qs fs → IsPackedProduct false zs qs bs → AreHalves vs ts us fs bs
-  AreHalves-made xs zs fs bs s g i =
-      let both : AllPackedIn vs (xs ++ zs) = subst (AllPackedIn vs) s a in
-      record {
-        first = AreOrdered-product vs false us xs qs fs y f (all_front (λ (t : PackedTerm). IsPackedIn vs t) xs zs both) b h g;
-        second = AreOrdered-product vs false us zs qs bs y f (all_back (λ (t : PackedTerm). IsPackedIn vs t) xs zs both) b h i;
-        stands = halves_stand vs false ts us ps qs y e f a b xs zs fs bs s g i;
-        degree = product_degree vs false ts us ps qs y e f a b;
-      }
-
-  pub AreHalves-one : (t : PackedTerm) (fs bs : List PackedShare) → ps ≡ t ∷ [] → fs ≡ row_shares false t qs → bs ≡ [] → AreHalves vs ts us fs bs
-  AreHalves-one t fs bs s g i = AreHalves-made (t ∷ []) [] fs bs s (subst (IsPackedProduct false (t ∷ []) qs) (sym g) (product_shares false t qs)) (subst (IsPackedProduct false [] qs) (sym i) (product_none false [] qs refl))
-
-  pub AreHalves-two : (t u : PackedTerm) (fs bs : List PackedShare) → ps ≡ t ∷ u ∷ [] → fs ≡ row_shares false t qs → bs ≡ row_shares false u qs → AreHalves vs ts us fs bs
-  AreHalves-two t u fs bs s g i = AreHalves-made (t ∷ []) (u ∷ []) fs bs s (subst (IsPackedProduct false (t ∷ []) qs) (sym g) (product_shares false t qs)) (subst (IsPackedProduct false (u ∷ []) qs) (sym i) (product_shares false u qs))
-
--- falling words are read as falling monomials
-pub IsDescending-read : (vs : List ℕ) (ss : List PackedShare) → IsLayout vs → AreFalling (share_words ss) → AllUnder (2 ^ (16 * length vs)) (share_words ss) → IsDescending (shares_read (monomial_of vs) ss)
-IsDescending-read vs [] y f l = tt
-IsDescending-read vs (s ∷ ss) y f l = (below ss f.0, IsDescending-read vs ss y f.1 l.1)
-  where
-    below : (ss : List PackedShare) → AllByRecursion (λ w. w < s.word) (share_words ss) → AllBelow (monomial_of vs s.word) (shares_read (monomial_of vs) ss)
-    below [] h = tt
-    below (t ∷ ss) h = (lower_monomial vs t.word s.word y.falling l.0 h.0, below ss h.1)
 
 -- the first k terms fit a layout
 pub AllFit-more : (vs : List ℕ) (ts : List Term) (k : ℕ) (t : Term) → k < length ts → t ≡ slice_index_or ts k t → FitsLayout vs t.monomial → AllFit vs (take k ts) → AllFit vs (take (k + 1) ts)
@@ -199,3 +165,40 @@ AllFit-more vs ts k t h e f a = subst (AllFit vs) (sym (take_more ts k t h e)) (
 
 pub AllFit-end : (vs : List ℕ) (ts : List Term) (k : ℕ) → length ts ≤ k → AllFit vs (take k ts) → AllFit vs ts
 AllFit-end vs ts k h a = subst (AllFit vs) (take_all ts k h) a
+
+-- shares of a product, and of its parts
+pub product_same : (minus : Bool) (ts us : List PackedTerm) (new old : List PackedShare) → IsSameInFewer new old → AreProductShares minus ts us old → AreProductShares minus ts us new
+product_same minus ts us new old h g = record {
+  sums = λ r p m. agree_through _ _ _ _ _ _ (h.sums r m) (g.sums r p m);
+  under = λ n a b. h.under n (g.under n a b);
+}
+
+pub product_list : (minus : Bool) (ts us : List PackedTerm) (ss : List PackedShare) → IsPackedProduct minus ts us ss → AreProductShares minus ts us ss
+product_list minus ts us ss g = record { sums = g.sums; under = g.under }
+
+pub product_parts : (minus : Bool) (ts us xs ys : List PackedTerm) (fs bs : List PackedShare) → ts ≡ xs ++ ys → AreProductShares minus xs us fs → AreProductShares minus ys us bs → AreProductShares minus ts us (fs ++ bs)
+product_parts minus ts us xs ys fs bs e f b = subst (λ zs. AreProductShares minus zs us (fs ++ bs)) (sym e) (record {
+  sums = λ r p. subst (Stands (shares_read r (fs ++ bs))) (sym (append_products minus r (xs ++ ys) us xs ys refl))
+      (subst (λ ss. Stands ss (signed_products minus (terms_read r xs) (terms_read r us) ++ signed_products minus (terms_read r ys) (terms_read r us))) (sym (shares_read-append r fs bs))
+      (Stands-append _ _ _ _ (f.sums r (all_front _ xs ys p)) (b.sums r (all_back _ xs ys p))));
+  under = λ n a h. let both : AllHalves n (term_words xs ++ term_words ys) = subst (AllHalves n) (term_words-append xs ys) a in
+      under_both n fs bs (f.under n (all_front _ (term_words xs) (term_words ys) both) h) (b.under n (all_back _ (term_words xs) (term_words ys) both) h);
+})
+
+-- one or two terms
+pub one_at : (ts : List PackedTerm) (k : ℕ) (t : PackedTerm) → k < length ts → t ≡ slice_index_or ts k t → take 1 (drop k ts) ≡ t ∷ []
+one_at ts k t h e = ap (take 1) (drop_at ts k t h e)
+
+pub none_at : (ts : List PackedTerm) (k : ℕ) → length ts ≤ k → take 1 (drop k ts) ≡ []
+none_at ts k h = ap (take 1) (drop_end ts k h)
+
+pub one_or_two : (ts : List PackedTerm) → length ts ≤ 2 → ts ≡ take 1 (drop 0 ts) ++ take 1 (drop 1 ts)
+one_or_two [] h = refl
+one_or_two (x ∷ []) h = refl
+one_or_two (x ∷ y ∷ []) h = refl
+one_or_two (x ∷ y ∷ z ∷ ts) h = absurd (omega arith)
+
+-- two lists of shares read from one merge
+pub Stands-both_read : (vs : List ℕ) (new fs bs : List PackedShare) (cs ds : List Term) → IsSameInFewer new (fs ++ bs) → Stands (shares_read (monomial_of vs) fs) cs → Stands (shares_read (monomial_of vs) bs) ds → Stands (shares_read (monomial_of vs) new) (cs ++ ds)
+Stands-both_read vs new fs bs cs ds h f b m =
+    agree_through _ _ _ _ _ _ (h.sums (monomial_of vs) m) (subst (λ ss. Stands ss (cs ++ ds)) (sym (shares_read-append (monomial_of vs) fs bs)) (Stands-append _ _ _ _ f b) m)

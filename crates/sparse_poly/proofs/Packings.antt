@@ -61,7 +61,7 @@ merge_only xs = record {
     plain_sum : (a : ℤ) → a ≡ a +ℤ pos 0
     plain_sum a = omega (arith, ints)
 
-append_end : (xs : List PackedShare) → xs ++ [] ≡ xs
+pub append_end : (xs : List PackedShare) → xs ++ [] ≡ xs
 append_end [] = refl
 append_end (x ∷ xs) = ap (λ r. x ∷ r) (append_end xs)
 
@@ -69,14 +69,14 @@ pub merge_rest : (xs ys : List PackedShare) → (xs ≡ []) ⊎ (ys ≡ []) → 
 merge_rest xs ys (inl e) = subst (λ us. IsPackedMerge us ys (us ++ ys)) (sym e) (merge_none ys)
 merge_rest xs ys (inr e) = subst (λ us. IsPackedMerge xs us (xs ++ us)) (sym e) (subst (IsPackedMerge xs []) (sym (append_end xs)) (merge_only xs))
 
-under_more : (n k : ℕ) (ws : List ℕ) → n ≤ k → AllUnder n ws → AllUnder k ws
+pub under_more : (n k : ℕ) (ws : List ℕ) → n ≤ k → AllUnder n ws → AllUnder k ws
 under_more n k ws l h = all_map (λ w. w < n) (λ w. w < k) ws (λ w g. omega arith) h
 
 -- what a share adds to a monomial
-abbrev weight_of : Reading → List (ℕ × ℕ) → PackedShare → ℕ
+abbrev pub weight_of : Reading → List (ℕ × ℕ) → PackedShare → ℕ
 weight_of r m s = if is_eq (monomial_cmp m (r s.word)) then s.weight else 0
 
-abbrev sum_of : Reading → List (ℕ × ℕ) → PackedShare → ℤ
+abbrev pub sum_of : Reading → List (ℕ × ℕ) → PackedShare → ℤ
 sum_of r m s = if is_eq (monomial_cmp m (r s.word)) then s.sum else pos 0
 
 pub merge_first : (x y : PackedShare) (xs ys zs : List PackedShare) → y.word < x.word → IsPackedMerge xs (y ∷ ys) zs → IsPackedMerge (x ∷ xs) (y ∷ ys) (x ∷ zs)
@@ -112,20 +112,20 @@ joined_at : (b : Bool) (z x y : PackedShare) → Agree z.weight z.sum (x.weight 
 joined_at true z x y a = a
 joined_at false z x y a = inl (omega arith, omega (arith, ints))
 
+pub joined_words : (x y z : PackedShare) → x.word ≡ y.word → z.word ≡ x.word → Agree z.weight z.sum (x.weight + y.weight) (x.sum +ℤ y.sum) → (r : Reading) (m : List (ℕ × ℕ)) → Agree (weight_of r m z) (sum_of r m z) (weight_of r m x + weight_of r m y) (sum_of r m x +ℤ sum_of r m y)
+joined_words x y z e f a r m =
+    subst (λ w. Agree (weight_of r m z) (sum_of r m z) ((if is_eq (monomial_cmp m (r w)) then x.weight else 0) + weight_of r m y) ((if is_eq (monomial_cmp m (r w)) then x.sum else pos 0) +ℤ sum_of r m y)) f
+    (subst (λ w. Agree (weight_of r m z) (sum_of r m z) ((if is_eq (monomial_cmp m (r z.word)) then x.weight else 0) + (if is_eq (monomial_cmp m (r w)) then y.weight else 0)) ((if is_eq (monomial_cmp m (r z.word)) then x.sum else pos 0) +ℤ (if is_eq (monomial_cmp m (r w)) then y.sum else pos 0))) (f ∙ e)
+    (joined_at (is_eq (monomial_cmp m (r z.word))) z x y a))
+
 pub merge_both : (x y z : PackedShare) (xs ys zs : List PackedShare) → x.word ≡ y.word → z.word ≡ x.word → Agree z.weight z.sum (x.weight + y.weight) (x.sum +ℤ y.sum) → IsPackedMerge xs ys zs → IsPackedMerge (x ∷ xs) (y ∷ ys) (z ∷ zs)
 merge_both x y z xs ys zs e f a g = record {
-  both = λ r m. agree_through _ _ _ _ _ _ (agree_plus _ _ _ _ _ _ _ _ (head r m) (g.both r m))
+  both = λ r m. agree_through _ _ _ _ _ _ (agree_plus _ _ _ _ _ _ _ _ (joined_words x y z e f a r m) (g.both r m))
       (same_agrees _ _ _ _ (pairs (weight_of r m x) (weight_of r m y) _ _) (pairs_sum (sum_of r m x) (sum_of r m y) (ssum (shares_read r xs) m) (ssum (shares_read r ys) m)));
   falling = λ h k. (g.under z.word (subst (λ n. AllUnder n (share_words xs)) (sym f) h.0) (subst (λ n. AllUnder n (share_words ys)) (sym (f ∙ e)) k.0), g.falling h.1 k.1);
   under = λ n h k. (subst (λ w. w < n) (sym f) h.0, g.under n h.1 k.1);
 }
   where
-    head : (r : Reading) (m : List (ℕ × ℕ)) → Agree (weight_of r m z) (sum_of r m z) (weight_of r m x + weight_of r m y) (sum_of r m x +ℤ sum_of r m y)
-    head r m =
-        subst (λ w. Agree (weight_of r m z) (sum_of r m z) ((if is_eq (monomial_cmp m (r w)) then x.weight else 0) + weight_of r m y) ((if is_eq (monomial_cmp m (r w)) then x.sum else pos 0) +ℤ sum_of r m y)) f
-        (subst (λ w. Agree (weight_of r m z) (sum_of r m z) ((if is_eq (monomial_cmp m (r z.word)) then x.weight else 0) + (if is_eq (monomial_cmp m (r w)) then y.weight else 0)) ((if is_eq (monomial_cmp m (r z.word)) then x.sum else pos 0) +ℤ (if is_eq (monomial_cmp m (r w)) then y.sum else pos 0))) (f ∙ e)
-        (joined_at (is_eq (monomial_cmp m (r z.word))) z x y a))
-
     pairs : (a b c d : ℕ) → (a + b) + (c + d) ≡ (a + c) + (b + d)
     pairs a b c d = omega arith
 
@@ -229,18 +229,6 @@ pub row_share_sum : (minus : Bool) (t u : PackedTerm) (s : PackedShare) → s �
 row_share_sum minus t u s e = subst (λ (x : PackedShare). Agree x.weight x.sum (unsigned_abs (signed minus (t.coeff *ℤ u.coeff))) (signed minus (t.coeff *ℤ u.coeff))) (sym e) (agree_kept (signed minus (t.coeff *ℤ u.coeff)))
 
 -- the shares of one term, as a list
-pub row_shares-length : (minus : Bool) (t : PackedTerm) (us : List PackedTerm) → length (row_shares minus t us) ≡ length us
-row_shares-length minus t [] = refl
-row_shares-length minus t (u ∷ us) = ap suc (row_shares-length minus t us)
-
-pub row_shares-read : (minus : Bool) (t : PackedTerm) (us : List PackedTerm) (k : ℕ) (u : PackedTerm) (s : PackedShare) → k < length us → u ≡ slice_index_or us k u → slice_index_or (row_shares minus t us) k s ≡ row_share minus t u
-row_shares-read minus t [] k u s h e = absurd (omega arith)
-row_shares-read minus t (x ∷ us) zero u s h e = ap (row_share minus t) (sym e)
-row_shares-read minus t (x ∷ us) (suc k) u s h e = row_shares-read minus t us k u s (omega arith) e
-
-pub row_shares-place : (minus : Bool) (t : PackedTerm) (us : List PackedTerm) (k : ℕ) → k < length (row_shares minus t us) → k < length us
-row_shares-place minus t us k h = subst (λ n. k < n) (row_shares-length minus t us) h
-
 row_shares-row : (minus : Bool) (t : PackedTerm) (us : List PackedTerm) → IsPackedRow minus t us (row_shares minus t us)
 row_shares-row minus t [] = row_none minus t
 row_shares-row minus t (u ∷ us) = row_more minus t u us (row_share minus t u) (row_shares minus t us) refl (agree_kept (signed minus (t.coeff *ℤ u.coeff))) (row_shares-row minus t us)
@@ -300,21 +288,15 @@ pub terms_read-append : (r : Reading) (xs ys : List PackedTerm) → terms_read r
 terms_read-append r [] ys = refl
 terms_read-append r (x ∷ xs) ys = ap (λ zs. term_read r x ∷ zs) (terms_read-append r xs ys)
 
-term_words-append : (xs ys : List PackedTerm) → term_words (xs ++ ys) ≡ term_words xs ++ term_words ys
+pub term_words-append : (xs ys : List PackedTerm) → term_words (xs ++ ys) ≡ term_words xs ++ term_words ys
 term_words-append [] ys = refl
 term_words-append (x ∷ xs) ys = ap (λ zs. x.word ∷ zs) (term_words-append xs ys)
 
 pub term_halves : (ts : List PackedTerm) (k : ℕ) → ts ≡ take k ts ++ take (length ts - k) (drop k ts)
 term_halves ts k = sym (ap (λ zs. take k ts ++ zs) (between_to_end ts k (length ts) (omega arith)) ∙ take-append-drop k ts)
 
-append_products : (minus : Bool) (r : Reading) (ts us xs ys : List PackedTerm) → ts ≡ xs ++ ys → signed_products minus (terms_read r ts) (terms_read r us) ≡ signed_products minus (terms_read r xs) (terms_read r us) ++ signed_products minus (terms_read r ys) (terms_read r us)
+pub append_products : (minus : Bool) (r : Reading) (ts us xs ys : List PackedTerm) → ts ≡ xs ++ ys → signed_products minus (terms_read r ts) (terms_read r us) ≡ signed_products minus (terms_read r xs) (terms_read r us) ++ signed_products minus (terms_read r ys) (terms_read r us)
 append_products minus r ts us xs ys e = ap (λ ws. signed_products minus ws (terms_read r us)) (ap (terms_read r) e ∙ terms_read-append r xs ys) ∙ signed_products-append minus (terms_read r xs) (terms_read r ys) (terms_read r us)
-
--- the contributions of both halves of a factor
-pub halves_sums : (minus : Bool) (ts us xs ys : List PackedTerm) (fs bs : List PackedShare) → ts ≡ xs ++ ys → IsPackedProduct minus xs us fs → IsPackedProduct minus ys us bs → (r : Reading) → AreProducts r ts us → Stands (shares_read r fs ++ shares_read r bs) (signed_products minus (terms_read r ts) (terms_read r us))
-halves_sums minus ts us xs ys fs bs e f b r p =
-    let both : AreProducts r (xs ++ ys) us = subst (λ ws. AreProducts r ws us) e p in
-    subst (Stands (shares_read r fs ++ shares_read r bs)) (sym (append_products minus r ts us xs ys e)) (Stands-append _ _ _ _ (f.sums r (all_front _ xs ys both)) (b.sums r (all_back _ xs ys both)))
 
 pub product_halves : (minus : Bool) (ts us xs ys : List PackedTerm) (fs bs zs : List PackedShare) → ts ≡ xs ++ ys → IsPackedProduct minus xs us fs → IsPackedProduct minus ys us bs → IsPackedMerge fs bs zs → IsPackedProduct minus ts us zs
 product_halves minus ts us xs ys fs bs zs e f b m = subst (λ ws. IsPackedProduct minus ws us zs) (sym e) (record {

@@ -10,7 +10,7 @@ use Rattle.sparse_poly.specs.declared.entry.Share.{Share}
 use Rattle.sparse_poly.specs.declared.packed_entry.PackedTerm.{PackedTerm}
 use Rattle.sparse_poly.specs.declared.packed_entry.PackedShare.{PackedShare}
 use Rattle.sparse_poly.specs.Contributions.{signed, kept, signed_row, signed_products}
-use Rattle.sparse_poly.specs.Standing.{Stands, StandsForBoth, IsTaken}
+use Rattle.sparse_poly.specs.Standing.{ssum, sweight, Agree, Stands, StandsForBoth}
 use Rattle.monomial.specs.Layouts.{AreFalling, IsLayout, word_of, monomial_of, FitsLayout}
 
 -- a way to read words
@@ -96,17 +96,33 @@ pub record IsPackedMerge (xs ys zs : List PackedShare) : Type 0 where
   pub falling : AreFalling (share_words xs) → AreFalling (share_words ys) → AreFalling (share_words zs)
   pub under : (n : ℕ) → AllUnder n (share_words xs) → AllUnder n (share_words ys) → AllUnder n (share_words zs)
 
--- the words of shares fall, and each is one of a layout
-pub record AreOrdered (vs : List ℕ) (ss : List PackedShare) : Type 0 where
-  pub falling : AreFalling (share_words ss)
-  pub under : AllUnder (2 ^ (16 * length vs)) (share_words ss)
+-- shares that stand for the contributions to a product
+pub record AreProductShares (minus : Bool) (ts us : List PackedTerm) (ss : List PackedShare) : Type 0 where
+  pub sums : (r : Reading) → AreProducts r ts us → Stands (shares_read r ss) (signed_products minus (terms_read r ts) (terms_read r us))
+  pub under : (n : ℕ) → AllHalves n (term_words ts) → AllHalves n (term_words us) → AllUnder n (share_words ss)
 
--- s is the greatest share of two lists from i and j on, and k and l are the places after it
-pub record IsPackedTaken (xs ys : List PackedShare) (i j k l : ℕ) (s : PackedShare) : Type 0 where
-  pub shorter : (length xs - k) + (length ys - l) < (length xs - i) + (length ys - j)
-  pub taken : (vs : List ℕ) → IsLayout vs → AreOrdered vs xs → AreOrdered vs ys → IsTaken (shares_read (monomial_of vs) (drop i xs)) (shares_read (monomial_of vs) (drop j ys)) (shares_read (monomial_of vs) (drop k xs)) (shares_read (monomial_of vs) (drop l ys)) (share_read (monomial_of vs) s)
+-- shares with the same sums as others, no more of them, and of no greater words
+pub record IsSameInFewer (new old : List PackedShare) : Type 0 where
+  pub sums : (r : Reading) (m : List (ℕ × ℕ)) → Agree (sweight (shares_read r new) m) (ssum (shares_read r new) m) (sweight (shares_read r old) m) (ssum (shares_read r old) m)
+  pub fewer : length new ≤ length old
+  pub under : (n : ℕ) → AllUnder n (share_words old) → AllUnder n (share_words new)
 
--- the next share of two lists
-abbrev pub IsPackedNext : List PackedShare → List PackedShare → ℕ → ℕ → ℕ → ℕ → Option PackedShare → Type 0
-IsPackedNext xs ys i j k l (Some s) = IsPackedTaken xs ys i j k l s
-IsPackedNext xs ys i j k l None = (length xs ≤ i) × (length ys ≤ j)
+-- s was taken from shares, and what is left is below it
+pub record IsPackedTaken (old new : List PackedShare) (s : PackedShare) : Type 0 where
+  pub same : IsSameInFewer (s ∷ new) old
+  pub below : AllUnder s.word (share_words new)
+
+-- the next of some shares
+abbrev pub IsPackedNext : List PackedShare → List PackedShare → Option PackedShare → Type 0
+IsPackedNext old new (Some s) = IsPackedTaken old new s
+IsPackedNext old new None = (old ≡ []) × (new ≡ [])
+
+-- shares with one before them that is held
+abbrev pub with_held : Option PackedShare → List PackedShare → List PackedShare
+with_held (Some s) ss = s ∷ ss
+with_held None ss = ss
+
+-- shares are below the one that is held, and there are none where none is held
+abbrev pub IsBelowHeld : Option PackedShare → List PackedShare → Type 0
+IsBelowHeld (Some s) ss = AllUnder s.word (share_words ss)
+IsBelowHeld None ss = ss ≡ []

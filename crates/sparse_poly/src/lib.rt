@@ -19,6 +19,7 @@ mod merging;
 mod multiplying;
 mod packed_entry;
 mod packing;
+mod sources;
 mod squeezing;
 mod stripping;
 mod weighing;

@@ -1,101 +1,21 @@
 //! Products of polynomials whose monomials are words.
-ghost use Rattle.std.specs.Prelude.{◌≡◌, ◌<◌, ◌≤◌, ◌+◌, ◌+ℤ◌, false, List, [], ◌∷◌, ◌++◌, length, slice_index_or, IfOk, MatchResult};
+ghost use Rattle.std.specs.Prelude.{◌≡◌, ◌<◌, ◌≤◌, ◌+◌, ◌*◌, ◌^◌, List, [], ◌∷◌, ◌++◌, length, take, drop, IfOk, MatchResult};
 ghost use Rattle.std.specs.Vec.{vec_len, vec_capacity};
-ghost use Rattle.std.specs.declared.option.Option.TheVariants.{None};
-ghost use Rattle.sparse_poly.specs.declared.packed_entry.PackedShare.{PackedShare};
-ghost use Rattle.sparse_poly.specs.Contributions.{degree_of, signed_products, contributions, IsPoly, IsResult, IsFault};
+ghost use Rattle.sparse_poly.specs.Contributions.{contributions, IsPoly, IsResult, IsFault};
 ghost use Rattle.sparse_poly.specs.Polynomials.{products};
-ghost use Rattle.sparse_poly.specs.Standing.{Agree, Stands, IsLightSum, IsHeavyFault};
+ghost use Rattle.sparse_poly.specs.Standing.{IsLightSum, IsHeavyFault};
 ghost use Rattle.sparse_poly.specs.Packing.{AllFit};
-ghost use Rattle.monomial.specs.Layouts.{monomial_of, IsLayout};
-ghost use Rattle.sparse_poly.specs.Packed.{terms_read, shares_read, row_share, row_shares, AllPackedIn, AreOrdered, IsPackedNext, IsRowAdded, IsPackedProduct, IsPackedMerge};
+ghost use Rattle.monomial.specs.Layouts.{monomial_of, AreFalling, IsLayout};
+ghost use Rattle.sparse_poly.specs.Packed.{terms_read, shares_read, term_words, share_words, AllPackedIn, AllUnder, AreProductShares, IsRowAdded, IsPackedProduct, IsPackedMerge};
 
-use crate::multiplying::kept_product;
 use crate::packed_entry::{PackedShare, PackedTerm};
+use crate::sources::{FallingShares, Merged, Product, StoredShares, TermRow, joined, share_of};
 use crate::squeezing::trimmed;
-use crate::weighing::joined_sum;
 use crate::{PolyFault, Term};
+use either::Either;
 use monomial::{Layout, Monomial};
 use std::alloc::{AllocError, Global};
 use std::cmp::Ordering;
-
-/// A list of shares, stored or made as it is read.
-trait ShareList {
-    /// The shares.
-    ghost listed: { Self → List PackedShare };
-
-    /// How many shares there are.
-    fn count(&self) -> usize
-        ensures { result ≡ length (listed self.now) };
-
-    /// The word of a share.
-    fn word_at(&self, place: usize) -> u128
-        requires { place < length (listed self.now) }
-        ensures { (s : PackedShare) → s ≡ slice_index_or (listed self.now) place s → result ≡ s.word };
-
-    /// A share.
-    fn share_at(&self, place: usize) -> PackedShare
-        requires { place < length (listed self.now) }
-        ensures { result ≡ slice_index_or (listed self.now) place result };
-}
-
-// Shares that are stored.
-#[derive(Clone, Copy)]
-struct StoredShares<'a> {
-    stored: &'a [PackedShare],
-}
-
-impl<'a> ShareList for StoredShares<'a> {
-    ghost listed = { λ l. l.stored.now };
-
-    #[inline(always)]
-    fn count(&self) -> usize {
-        self.stored.len()
-    }
-
-    #[inline(always)]
-    fn word_at(&self, place: usize) -> u128 {
-        self.stored[place].word
-    }
-
-    #[inline(always)]
-    fn share_at(&self, place: usize) -> PackedShare {
-        self.stored[place]
-    }
-}
-
-// The contributions of one term, made as they are read.
-#[derive(Clone, Copy)]
-struct TermRow<'a> {
-    term: PackedTerm,
-    others: &'a [PackedTerm],
-}
-
-impl<'a> ShareList for TermRow<'a> {
-    ghost listed = { λ l. row_shares false l.term l.others.now };
-
-    #[inline(always)]
-    fn count(&self) -> usize {
-        self.others.len()
-    }
-
-    #[inline(always)]
-    fn word_at(&self, place: usize) -> u128 {
-        self.term.word + self.others[place].word
-    }
-
-    #[inline(always)]
-    fn share_at(&self, place: usize) -> PackedShare {
-        share_of(self.term, self.others[place], false)
-    }
-}
-
-// The contributions of one term, not made yet.
-fn row<'a>(term: PackedTerm, others: &'a [PackedTerm]) -> TermRow<'a>
-    ensures { ⟦<TermRow<'static> as ShareList>⟧.listed result ≡ row_shares false term others.now }
-{
-    TermRow { term, others }
-}
 
 /// The terms of `l*q - a*p`, by words.
 pub fn packed_combination(
@@ -117,11 +37,13 @@ pub fn packed_combination(
     requires p_fits { AllFit layout.now p.now }
     ensures { MatchResult result (λ v. IsResult (contributions l.now q.now a.now p.now) v.items) (IsFault (contributions l.now q.now a.now p.now)) }
 {
-    let first = packed_product(alloc, layout, l, q, false)?;
-    let second = packed_product(alloc, layout, a, p, true)?;
-    let first = StoredShares { stored: &first };
-    let second = StoredShares { stored: &second };
-    squeeze(alloc, layout, &first, &second)
+    let ls = packed(alloc, layout, l)?;
+    let qs = packed(alloc, layout, q)?;
+    let as_ = packed(alloc, layout, a)?;
+    let ps = packed(alloc, layout, p)?;
+    let first = product(alloc, &ls, &qs, false)?;
+    let second = product(alloc, &as_, &ps, true)?;
+    squeeze(alloc, layout, Merged::new(first, second))
 }
 
 /// The terms of `l*q`, by words.
@@ -140,44 +62,43 @@ pub fn packed_multiplication(
 {
     let ts = packed(alloc, layout, l)?;
     let us = packed(alloc, layout, q)?;
-    if ts.len() == 1 {
-        let first = row(ts[0], &us);
-        let second = row(ts[0], &[]);
-        return squeeze(alloc, layout, &first, &second);
-    }
-    if ts.len() == 2 {
-        let first = row(ts[0], &us);
-        let second = row(ts[1], &us);
-        return squeeze(alloc, layout, &first, &second);
-    }
     let half = ts.len() / 2;
-    let first = part(alloc, &ts[..half], &us, false)?;
-    let second = part(alloc, &ts[half..], &us, false)?;
-    let first = StoredShares { stored: &first };
-    let second = StoredShares { stored: &second };
-    squeeze(alloc, layout, &first, &second)
+    let first = product(alloc, &ts[..half], &us, false)?;
+    let second = product(alloc, &ts[half..], &us, false)?;
+    squeeze(alloc, layout, Merged::new(first, second))
 }
 
 // The contributions to a product.
-fn packed_product(
+fn product<'a>(
     alloc: Global,
-    layout: &Layout,
-    ts: &[Term],
-    us: &[Term],
+    ts: &[PackedTerm],
+    us: &'a [PackedTerm],
     minus: bool,
-) -> Result<Vec<PackedShare>, AllocError>
-    requires layout { IsLayout layout.now }
-    requires ts_poly { IsPoly ts.now }
-    requires us_poly { IsPoly us.now }
-    requires ts_fits { AllFit layout.now ts.now }
-    requires us_fits { AllFit layout.now us.now }
-    ensures sums { IfOk result (λ v. Stands (shares_read (monomial_of layout.now) v.items) (signed_products minus ts.now us.now)) }
-    ensures degree { IfOk result (λ _. degree_of (signed_products minus ts.now us.now) ≡ None) }
-    ensures order { IfOk result (λ v. AreOrdered layout.now v.items) }
+) -> Result<Product<'a>, AllocError>
+    requires { AreFalling (term_words us.now) }
+    ensures sums { IfOk result (λ v. AreProductShares minus ts.now us.now (⟦<Product<'static> as FallingShares>⟧.left v)) }
+    ensures falls { IfOk result (⟦<Product<'static> as FallingShares>⟧.falls) }
 {
-    let ts = packed(alloc, layout, ts)?;
-    let us = packed(alloc, layout, us)?;
-    part(alloc, &ts, &us, minus)
+    if ts.len() > 2 {
+        let shares = part(alloc, ts, us, minus)?;
+        return Ok(Either::Right(StoredShares::new(shares)));
+    }
+    let first = row_at(ts, 0, us, minus);
+    let second = row_at(ts, 1, us, minus);
+    Ok(Either::Left(Merged::new(first, second)))
+}
+
+// The contributions of the term at a place, if there is one.
+fn row_at<'a>(ts: &[PackedTerm], place: usize, us: &'a [PackedTerm], minus: bool) -> TermRow<'a>
+    requires { AreFalling (term_words us.now) }
+    ensures sums { AreProductShares minus (take 1 (drop place ts.now)) us.now (⟦<TermRow<'static> as FallingShares>⟧.left result) }
+    ensures falls { ⟦<TermRow<'static> as FallingShares>⟧.falls result }
+{
+    if place < ts.len() {
+        TermRow::new(ts[place], us, minus)
+    } else {
+        TermRow::new(PackedTerm { word: 0, coeff: 0 }, &[], minus)
+    }
 }
 
 // Terms with their words.
@@ -291,19 +212,6 @@ fn add_row(shares: &mut Vec<PackedShare>, t: PackedTerm, us: &[PackedTerm], minu
     }
 }
 
-// The share of one contribution.
-#[inline(always)]
-fn share_of(t: PackedTerm, u: PackedTerm, minus: bool) -> PackedShare
-    ensures { result ≡ row_share minus t u }
-{
-    let sum = kept_product(t.coeff, u.coeff, minus);
-    PackedShare {
-        word: t.word + u.word,
-        sum,
-        weight: sum.unsigned_abs(),
-    }
-}
-
 // Two falling lists as one.
 fn merge(
     alloc: Global,
@@ -337,79 +245,20 @@ fn merge(
     Ok(shares)
 }
 
-// Two shares of one word as one.
-fn joined(x: PackedShare, y: PackedShare) -> PackedShare
-    ensures word { result.word ≡ x.word }
-    ensures sum { Agree result.weight result.sum (x.weight + y.weight) (x.sum +ℤ y.sum) }
-{
-    let total = joined_sum(x.total(), y.total());
-    PackedShare {
-        word: x.word,
-        sum: total.value,
-        weight: total.weight,
-    }
-}
-
-// Takes the greatest share that two falling lists have from these places on. The places go past it.
-#[inline(always)]
-fn next_share<L: ShareList>(
-    first: &L,
-    second: &L,
-    i: &mut usize,
-    j: &mut usize,
-) -> Option<PackedShare>
-    ensures { IsPackedNext (L.listed first.now) (L.listed second.now) i.old j.old i.new j.new result }
-{
-    if *i >= first.count() {
-        if *j >= second.count() {
-            return None;
-        }
-        let y = second.share_at(*j);
-        *j += 1;
-        return Some(y);
-    }
-    if *j >= second.count() {
-        let x = first.share_at(*i);
-        *i += 1;
-        return Some(x);
-    }
-    match first.word_at(*i).cmp(&second.word_at(*j)) {
-        Ordering::Less => {
-            let y = second.share_at(*j);
-            *j += 1;
-            Some(y)
-        }
-        Ordering::Equal => {
-            let x = first.share_at(*i);
-            let y = second.share_at(*j);
-            *i += 1;
-            *j += 1;
-            Some(joined(x, y))
-        }
-        Ordering::Greater => {
-            let x = first.share_at(*i);
-            *i += 1;
-            Some(x)
-        }
-    }
-}
-
-// The sums of two falling lists of shares.
-fn squeeze<L: ShareList>(
+// The sums of shares.
+fn squeeze<S: FallingShares + Drop>(
     alloc: Global,
     layout: &Layout,
-    first: &L,
-    second: &L,
+    shares: S,
 ) -> Result<Vec<Term>, PolyFault>
     requires layout { IsLayout layout.now }
-    requires first { AreOrdered layout.now (L.listed first.now) }
-    requires second { AreOrdered layout.now (L.listed second.now) }
-    ensures { MatchResult result (λ v. IsLightSum (shares_read (monomial_of layout.now) (L.listed first.now) ++ shares_read (monomial_of layout.now) (L.listed second.now)) v.items) (IsHeavyFault (shares_read (monomial_of layout.now) (L.listed first.now) ++ shares_read (monomial_of layout.now) (L.listed second.now))) }
+    requires falls { S.falls shares }
+    requires words { AllUnder (2 ^ (16 * length layout.now)) (share_words (S.left shares)) }
+    ensures { MatchResult result (λ v. IsLightSum (shares_read (monomial_of layout.now) (S.left shares)) v.items) (IsHeavyFault (shares_read (monomial_of layout.now) (S.left shares))) }
 {
-    let mut terms = Vec::with_capacity(alloc, first.count().saturating_add(second.count()))?;
-    let mut i = 0;
-    let mut j = 0;
-    'shares: while let Some(share) = next_share(first, second, &mut i, &mut j) {
+    let mut shares = shares;
+    let mut terms = Vec::with_capacity(alloc, shares.count())?;
+    'shares: while let Some(share) = shares.next() {
         if share.weight > i128::MAX as u128 {
             return Err(PolyFault::Heavy {
                 monomial: Monomial::of_word(alloc, layout, share.word),
@@ -418,10 +267,10 @@ fn squeeze<L: ShareList>(
         if share.sum == 0 {
             continue;
         }
-        terms.push_reserved(Term {
+        terms.push(Term {
             monomial: Monomial::of_word(alloc, layout, share.word),
             coeff: share.sum,
-        });
+        })?;
     }
     Ok(trimmed(terms))
 }

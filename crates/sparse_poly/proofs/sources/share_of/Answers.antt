@@ -2,7 +2,7 @@ use Rattle.std.proofs.Common.{rules, ◌≡◌, ◌*ℤ◌, ◌∙◌, ap, refl,
 use Rattle.std.specs.Int.{w128}
 use Rattle.sparse_poly.specs.Contributions.{kept, signed}
 use Rattle.sparse_poly.proofs.Packings.{is_row_share}
-use Rattle.sparse_poly.proofs.packing.share_of.Goals as goal
+use Rattle.sparse_poly.proofs.sources.share_of.Goals as goal
 
 pub returns : goal.returns
 returns c =

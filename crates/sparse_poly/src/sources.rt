@@ -1,0 +1,238 @@
+//! Lists of shares that are read from the greatest word down, stored or made as they are read.
+ghost use Rattle.std.specs.Prelude.{◌≡◌, ◌+◌, ◌+ℤ◌, List, [], ◌++◌, length, drop};
+ghost use Rattle.sparse_poly.specs.declared.packed_entry.PackedShare.{PackedShare};
+ghost use Rattle.sparse_poly.specs.Standing.{Agree};
+ghost use Rattle.sparse_poly.specs.Packed.{term_words, share_words, row_share, row_shares, with_held, IsBelowHeld, IsPackedNext, IsSameInFewer};
+ghost use Rattle.monomial.specs.Layouts.{AreFalling};
+ghost use Rattle.either.specs.Either.{either, MatchEither};
+
+use crate::multiplying::kept_product;
+use crate::packed_entry::{PackedShare, PackedTerm};
+use crate::weighing::joined_sum;
+use either::Either;
+use std::cmp::Ordering;
+
+/// Shares that are read from the greatest word down.
+pub trait FallingShares {
+    /// The shares that are left, of which some may have one word and then come as one.
+    ghost left: { Self → List PackedShare };
+
+    /// That they can be read from the greatest word down.
+    ghost falls: { Self → Type 0 };
+
+    /// How many shares are left, if no two have one word.
+    fn count(&self) -> usize;
+
+    /// Takes the share of the greatest word.
+    fn next(&mut self) -> Option<PackedShare>
+        requires { falls self.old }
+        ensures next { IsPackedNext (left self.old) (left self.new) result }
+        ensures falls { falls self.new };
+}
+
+/// The contributions of one term, made as they are read.
+#[derive(Clone, Copy)]
+pub struct TermRow<'a> {
+    term: PackedTerm,
+    others: &'a [PackedTerm],
+    minus: bool,
+    place: usize,
+}
+
+impl<'a> TermRow<'a> {
+    /// The contributions of a term, of which none is made yet.
+    pub fn new(term: PackedTerm, others: &'a [PackedTerm], minus: bool) -> TermRow<'a>
+        ensures left { ⟦<TermRow<'static> as FallingShares>⟧.left result ≡ row_shares minus term others.now }
+        ensures falls { AreFalling (share_words (row_shares minus term others.now)) → ⟦<TermRow<'static> as FallingShares>⟧.falls result }
+    {
+        TermRow {
+            term,
+            others,
+            minus,
+            place: 0,
+        }
+    }
+}
+
+impl<'a> FallingShares for TermRow<'a> {
+    ghost left = { λ r. row_shares r.minus r.term (drop r.place r.others.now) };
+
+    ghost falls = { λ r. AreFalling (share_words (row_shares r.minus r.term (drop r.place r.others.now))) };
+
+    #[inline(always)]
+    fn count(&self) -> usize {
+        self.others.len().saturating_sub(self.place)
+    }
+
+    #[inline(always)]
+    fn next(&mut self) -> Option<PackedShare> {
+        if self.place >= self.others.len() {
+            return None;
+        }
+        let other = self.others[self.place];
+        self.place += 1;
+        Some(share_of(self.term, other, self.minus))
+    }
+}
+
+/// Shares that are stored.
+#[derive(Drop)]
+pub struct StoredShares {
+    shares: Vec<PackedShare>,
+    place: usize,
+}
+
+impl StoredShares {
+    /// Stored shares, of which none is read yet.
+    pub fn new(shares: Vec<PackedShare>) -> StoredShares
+        ensures left { ⟦<StoredShares as FallingShares>⟧.left result ≡ shares.items }
+        ensures falls { AreFalling (share_words shares.items) → ⟦<StoredShares as FallingShares>⟧.falls result }
+    {
+        StoredShares { shares, place: 0 }
+    }
+}
+
+impl FallingShares for StoredShares {
+    ghost left = { λ s. drop s.place s.shares.items };
+
+    ghost falls = { λ s. AreFalling (share_words (drop s.place s.shares.items)) };
+
+    #[inline(always)]
+    fn count(&self) -> usize {
+        self.shares.len().saturating_sub(self.place)
+    }
+
+    #[inline(always)]
+    fn next(&mut self) -> Option<PackedShare> {
+        if self.place >= self.shares.len() {
+            return None;
+        }
+        let share = self.shares[self.place];
+        self.place += 1;
+        Some(share)
+    }
+}
+
+/// The merge of two lists, made as it is read. The next share of each is held.
+#[derive(Drop)]
+pub struct Merged<A, B> {
+    first: A,
+    second: B,
+    next_first: Option<PackedShare>,
+    next_second: Option<PackedShare>,
+}
+
+impl<A: FallingShares + Drop, B: FallingShares + Drop> Merged<A, B> {
+    /// The merge of two lists, of which nothing is read yet.
+    #[inline(always)]
+    pub fn new(first: A, second: B) -> Merged<A, B>
+        requires first { A.falls first }
+        requires second { B.falls second }
+        ensures same { IsSameInFewer (⟦<Merged<A, B> as FallingShares>⟧.left result) (A.left first ++ B.left second) }
+        ensures falls { ⟦<Merged<A, B> as FallingShares>⟧.falls result }
+    {
+        let mut first = first;
+        let mut second = second;
+        let next_first = first.next();
+        let next_second = second.next();
+        Merged {
+            first,
+            second,
+            next_first,
+            next_second,
+        }
+    }
+}
+
+impl<A: FallingShares + Drop, B: FallingShares + Drop> FallingShares for Merged<A, B> {
+    ghost left = { λ m. with_held m.next_first (A.left m.first) ++ with_held m.next_second (B.left m.second) };
+
+    ghost falls = { λ m. A.falls m.first × B.falls m.second × IsBelowHeld m.next_first (A.left m.first) × IsBelowHeld m.next_second (B.left m.second) };
+
+    #[inline(always)]
+    fn count(&self) -> usize {
+        self.first
+            .count()
+            .saturating_add(self.second.count())
+            .saturating_add(2)
+    }
+
+    #[inline(always)]
+    fn next(&mut self) -> Option<PackedShare> {
+        let Some(x) = self.next_first else {
+            let y = self.next_second?;
+            self.next_second = self.second.next();
+            return Some(y);
+        };
+        let Some(y) = self.next_second else {
+            self.next_first = self.first.next();
+            return Some(x);
+        };
+        match x.word.cmp(&y.word) {
+            Ordering::Less => {
+                self.next_second = self.second.next();
+                Some(y)
+            }
+            Ordering::Equal => {
+                self.next_first = self.first.next();
+                self.next_second = self.second.next();
+                Some(joined(x, y))
+            }
+            Ordering::Greater => {
+                self.next_first = self.first.next();
+                Some(x)
+            }
+        }
+    }
+}
+
+/// The contributions to a product: those of one or two terms are made as they are read, and those of more terms are stored.
+pub type Product<'a> = Either<Merged<TermRow<'a>, TermRow<'a>>, StoredShares>;
+
+impl<A: FallingShares, B: FallingShares> FallingShares for Either<A, B> {
+    ghost left = { either A.left B.left };
+
+    ghost falls = { λ s. MatchEither s A.falls B.falls };
+
+    #[inline(always)]
+    fn count(&self) -> usize {
+        match self {
+            Either::Left(shares) => shares.count(),
+            Either::Right(shares) => shares.count(),
+        }
+    }
+
+    #[inline(always)]
+    fn next(&mut self) -> Option<PackedShare> {
+        match self {
+            Either::Left(shares) => shares.next(),
+            Either::Right(shares) => shares.next(),
+        }
+    }
+}
+
+/// The share of one contribution.
+#[inline(always)]
+pub fn share_of(t: PackedTerm, u: PackedTerm, minus: bool) -> PackedShare
+    ensures { result ≡ row_share minus t u }
+{
+    let sum = kept_product(t.coeff, u.coeff, minus);
+    PackedShare {
+        word: t.word + u.word,
+        sum,
+        weight: sum.unsigned_abs(),
+    }
+}
+
+/// Two shares of one word as one.
+pub fn joined(x: PackedShare, y: PackedShare) -> PackedShare
+    ensures word { result.word ≡ x.word }
+    ensures sum { Agree result.weight result.sum (x.weight + y.weight) (x.sum +ℤ y.sum) }
+{
+    let total = joined_sum(x.total(), y.total());
+    PackedShare {
+        word: x.word,
+        sum: total.value,
+        weight: total.weight,
+    }
+}
