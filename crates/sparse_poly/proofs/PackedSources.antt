@@ -1,4 +1,4 @@
--- Packed shares that are read from the greatest word down: merges that are made as they are read, and what is read.
+-- Packed shares that are read from the greatest word down: merges that are made as they are read, and what is read in a layout.
 use Rattle.std.specs.Prelude.{◌≡◌, ◌<◌, ◌≤◌, ℕ, ◌+◌, ◌*◌, ◌^◌, ℤ, ◌+ℤ◌, Bool, List, [], ◌∷◌, ◌++◌, length, drop, slice_index_or, refl}
 use mathlib.Core.Logic.{◌⊎◌, inl, inr}
 use Rattle.std.proofs.Common.{arith, sym, ◌∙◌, ap, subst, length-append}
@@ -14,7 +14,7 @@ use Rattle.monomial.proofs.Words.{lower_monomial}
 use Rattle.sparse_poly.specs.declared.packed_entry.PackedTerm.{PackedTerm}
 use Rattle.sparse_poly.specs.declared.packed_entry.PackedShare.{PackedShare}
 use Rattle.sparse_poly.specs.Standing.{ssum, sweight, Agree, AllBelow}
-use Rattle.sparse_poly.specs.Packed.{Reading, share_read, shares_read, share_words, row_share, row_shares, AllUnder, IsSameInFewer, IsPackedTaken, IsPackedNext, with_held, IsBelowHeld}
+use Rattle.sparse_poly.specs.Packed.{Reading, share_read, shares_read, share_words, row_share, row_shares, AllUnder, IsSameInFewer, IsGreatestWord, IsPackedTaken, IsPackedNext}
 use Rattle.sparse_poly.proofs.Descending.{all_both}
 use Rattle.sparse_poly.proofs.Packings.{drop_at, weight_of, sum_of, under_more, joined_words}
 use Rattle.sparse_poly.proofs.Places.{drop_end}
@@ -104,88 +104,116 @@ same_joined x y z zs e f a = record {
     assoc_sum : (a b c : ℤ) → (a +ℤ b) +ℤ c ≡ a +ℤ (b +ℤ c)
     assoc_sum a b c = omega (arith, ints)
 
--- the next share, held before what is left
-pub held_same : (old new : List PackedShare) (o : Option PackedShare) → IsPackedNext old new o → IsSameInFewer (with_held o new) old
-held_same old new (Some s) h = h.same
-held_same old new None h = subst (λ xs. IsSameInFewer new xs) (h.1 ∙ sym h.0) (same_itself new)
+-- the greatest word
+pub greatest_of : (w : ℕ) (ss : List PackedShare) (s : PackedShare) → AreFalling (share_words (s ∷ ss)) → w ≡ s.word → IsGreatestWord (s ∷ ss) (Some w)
+greatest_of w ss s f e n = (λ h. subst (λ v. v < n) (sym e) h.0, λ l. let less : s.word < n = subst (λ v. v < n) e l in (less, under_more s.word n (share_words ss) (omega arith) f.0))
 
-pub held_below : (old new : List PackedShare) (o : Option PackedShare) → IsPackedNext old new o → IsBelowHeld o new
-held_below old new (Some s) h = h.below
-held_below old new None h = h.1
+pub never_empty : (ss : List PackedShare) (w : ℕ) → IsGreatestWord ss (Some w) → ss ≡ [] → ⊥
+never_empty ss w h e = let less : w < 0 = (h 0).0 (subst (λ xs. AllUnder 0 (share_words xs)) (sym e) tt) in omega arith
 
-held_under : (n : ℕ) (old new : List PackedShare) (o : Option PackedShare) → IsPackedNext old new o → AllUnder n (share_words old) → AllUnder n (share_words (with_held o new))
-held_under n old new o h a = (held_same old new o h).under n a
+pub greatest_first : (fs ss : List PackedShare) (w : ℕ) → IsGreatestWord fs (Some w) → IsGreatestWord ss None → IsGreatestWord (fs ++ ss) (Some w)
+greatest_first fs ss w h e n = (λ u. (h n).0 (under_front n fs ss u), λ l. under_both n fs ss ((h n).1 l) (subst (λ xs. AllUnder n (share_words xs)) (sym e) tt))
 
--- the greatest share is the one that the first list holds
-take_first : (x : PackedShare) (fs gs rest : List PackedShare) (o : Option PackedShare) → AllUnder x.word (share_words fs) → AllUnder x.word (share_words rest) → IsPackedNext fs gs o → IsPackedTaken (x ∷ (fs ++ rest)) (with_held o gs ++ rest) x
-take_first x fs gs rest o a b h = record {
-  same = same_cons x _ _ (same_both (with_held o gs) rest fs rest (held_same fs gs o h) (same_itself rest));
-  below = under_both x.word (with_held o gs) rest (held_under x.word fs gs o h a) b;
+pub greatest_both : (fs ss : List PackedShare) (v w k : ℕ) → IsGreatestWord fs (Some v) → IsGreatestWord ss (Some w) → (v ≤ k) × (w ≤ k) × ((k ≡ v) ⊎ (k ≡ w)) → IsGreatestWord (fs ++ ss) (Some k)
+greatest_both fs ss v w k h i m n = (λ u. each m.2 ((h n).0 (under_front n fs ss u)) ((i n).0 (under_back n fs ss u)), λ l. under_both n fs ss ((h n).1 (omega (arith, m.0, l))) ((i n).1 (omega (arith, m.1, l))))
+  where
+    each : (k ≡ v) ⊎ (k ≡ w) → v < n → w < n → k < n
+    each (inl e) a b = omega arith
+    each (inr e) a b = omega arith
+
+pub greatest_second : (fs ss : List PackedShare) (o : Option ℕ) → fs ≡ [] → IsGreatestWord ss o → IsGreatestWord (fs ++ ss) o
+greatest_second fs ss o e g = subst (λ xs. IsGreatestWord (xs ++ ss) o) (sym e) g
+
+pub greater_of : (v w k : ℕ) → k ≡ Prim.Native.Nat.max v w → (v ≤ k) × (w ≤ k) × ((k ≡ v) ⊎ (k ≡ w))
+greater_of v w k e = (omega (arith, e), omega (arith, e), each (cases_lt v w))
+  where
+    each : (v < w) ⊎ (w ≤ v) → (k ≡ v) ⊎ (k ≡ w)
+    each (inl l) = inr (omega (arith, e))
+    each (inr l) = inl (omega (arith, e))
+
+-- a share that is taken has the greatest word
+taken_word : (old new : List PackedShare) (s : PackedShare) (w : ℕ) → IsGreatestWord old (Some w) → IsPackedTaken old new s → s.word ≡ w
+taken_word old new s w g h =
+    let most : w < s.word + 1 = (g (s.word + 1)).0 (h.above (s.word + 1) (omega arith)) in
+    let least : s.word < w + 1 = (h.same.under (w + 1) ((g (w + 1)).1 (omega arith))).0 in
+    omega arith
+
+-- the greatest share is in the first list
+pub next_first : (fs gs ss : List PackedShare) (v w : ℕ) (o : Option PackedShare) → IsGreatestWord fs (Some v) → IsGreatestWord ss (Some w) → w < v → IsPackedNext fs gs o → IsPackedNext (fs ++ ss) (gs ++ ss) o
+next_first fs gs ss v w None g i l h = absurd (never_empty fs v g h.0)
+next_first fs gs ss v w (Some s) g i l h =
+    let own : s.word ≡ v = taken_word fs gs s v g h in
+    record {
+      same = same_both (s ∷ gs) ss fs ss h.same (same_itself ss);
+      above = λ n m. under_both n fs ss (h.above n m) ((i n).1 (omega arith));
+      below = under_both s.word gs ss h.below ((i s.word).1 (omega arith));
+    }
+
+pub next_only_first : (fs gs ss : List PackedShare) (o : Option PackedShare) → IsGreatestWord ss None → IsPackedNext fs gs o → IsPackedNext (fs ++ ss) (gs ++ ss) o
+next_only_first fs gs ss None e h = (ap (λ xs. xs ++ ss) h.0 ∙ e, ap (λ xs. xs ++ ss) h.1 ∙ e)
+next_only_first fs gs ss (Some s) e h = record {
+  same = same_both (s ∷ gs) ss fs ss h.same (same_itself ss);
+  above = λ n m. under_both n fs ss (h.above n m) (none n);
+  below = under_both s.word gs ss h.below (none s.word);
 }
+  where
+    none : (n : ℕ) → AllUnder n (share_words ss)
+    none n = subst (λ xs. AllUnder n (share_words xs)) (sym e) tt
 
-pub next_first : (x y : PackedShare) (fs gs ss : List PackedShare) (held held_second o : Option PackedShare) → held ≡ Some x → held_second ≡ Some y → y.word < x.word → IsBelowHeld held fs → IsBelowHeld held_second ss → IsPackedNext fs gs o → IsPackedTaken (with_held held fs ++ with_held held_second ss) (with_held o gs ++ with_held held_second ss) x
-next_first x y fs gs ss None held_second o d e l a b h = absurd (cc d)
-next_first x y fs gs ss (Some z) None o d e l a b h = absurd (cc e)
-next_first x y fs gs ss (Some z) (Some w) o d e l a b h =
-    let first : z ≡ x = cc d in
-    let second : w ≡ y = cc e in
-    let less : w.word < x.word = subst (λ (v : PackedShare). v.word < x.word) (sym second) l in
-    subst (λ v. IsPackedTaken (v ∷ (fs ++ w ∷ ss)) (with_held o gs ++ w ∷ ss) x) (sym first)
-    (take_first x fs gs (w ∷ ss) o (subst (λ (v : PackedShare). AllUnder v.word (share_words fs)) first a) (less, under_more w.word x.word (share_words ss) (omega arith) b) h)
+-- the greatest share is in the second list
+pub next_second : (fs ss ts : List PackedShare) (v w : ℕ) (o : Option PackedShare) → IsGreatestWord fs (Some v) → IsGreatestWord ss (Some w) → v < w → IsPackedNext ss ts o → IsPackedNext (fs ++ ss) (fs ++ ts) o
+next_second fs ss ts v w None g i l h = absurd (never_empty ss w i h.0)
+next_second fs ss ts v w (Some s) g i l h =
+    let own : s.word ≡ w = taken_word ss ts s w i h in
+    record {
+      same = same_through _ _ _ (same_moved fs ts s) (same_both fs (s ∷ ts) fs ss (same_itself fs) h.same);
+      above = λ n m. under_both n fs ss ((g n).1 (omega arith)) (h.above n m);
+      below = under_both s.word fs ts ((g s.word).1 (omega arith)) h.below;
+    }
 
-pub next_only_first : (x : PackedShare) (fs gs ss : List PackedShare) (held held_second o : Option PackedShare) → held ≡ Some x → ((y : PackedShare) → held_second ≡ Some y → ⊥) → IsBelowHeld held fs → IsBelowHeld held_second ss → IsPackedNext fs gs o → IsPackedTaken (with_held held fs ++ with_held held_second ss) (with_held o gs ++ with_held held_second ss) x
-next_only_first x fs gs ss None held_second o d n a b h = absurd (cc d)
-next_only_first x fs gs ss (Some z) (Some w) o d n a b h = absurd (n w refl)
-next_only_first x fs gs ss (Some z) None o d n a b h =
-    let first : z ≡ x = cc d in
-    subst (λ v. IsPackedTaken (v ∷ (fs ++ ss)) (with_held o gs ++ ss) x) (sym first)
-    (take_first x fs gs ss o (subst (λ (v : PackedShare). AllUnder v.word (share_words fs)) first a) (subst (λ vs. AllUnder x.word (share_words vs)) (sym b) tt) h)
+pub next_only_second : (fs ss ts : List PackedShare) (o : Option PackedShare) → IsGreatestWord fs None → IsPackedNext ss ts o → IsPackedNext (fs ++ ss) (fs ++ ts) o
+next_only_second fs ss ts o e h = subst (λ xs. IsPackedNext (xs ++ ss) (xs ++ ts) o) (sym e) h
 
--- the greatest share is the one that the second list holds
-take_second : (y : PackedShare) (rest ss ts : List PackedShare) (o : Option PackedShare) → AllUnder y.word (share_words rest) → AllUnder y.word (share_words ss) → IsPackedNext ss ts o → IsPackedTaken (rest ++ y ∷ ss) (rest ++ with_held o ts) y
-take_second y rest ss ts o a b h = record {
-  same = same_through _ _ _ (same_cons y _ _ (same_both rest (with_held o ts) rest ss (same_itself rest) (held_same ss ts o h))) (same_moved rest ss y);
-  below = under_both y.word rest (with_held o ts) a (held_under y.word ss ts o h b);
-}
+-- both lists have a share of the greatest word
+pub next_both : (fs gs ss ts : List PackedShare) (v w : ℕ) (x y z : PackedShare) → IsGreatestWord fs (Some v) → IsGreatestWord ss (Some w) → v ≡ w → IsPackedTaken fs gs x → IsPackedTaken ss ts y → z.word ≡ x.word → Agree z.weight z.sum (x.weight + y.weight) (x.sum +ℤ y.sum) → IsPackedTaken (fs ++ ss) (gs ++ ts) z
+next_both fs gs ss ts v w x y z g i e h k d a =
+    let first : x.word ≡ v = taken_word fs gs x v g h in
+    let second : y.word ≡ w = taken_word ss ts y w i k in
+    let equal : x.word ≡ y.word = first ∙ e ∙ sym second in
+    record {
+      same = same_through _ _ _ (same_joined x y z (gs ++ ts) equal d a)
+          (same_through _ _ _ (same_cons x _ _ (same_moved gs ts y)) (same_both (x ∷ gs) (y ∷ ts) fs ss h.same k.same));
+      above = λ n m. under_both n fs ss (h.above n (omega (arith, d, m))) (k.above n (omega (arith, d, equal, m)));
+      below = under_both z.word gs ts (subst (λ n. AllUnder n (share_words gs)) (sym d) h.below) (subst (λ n. AllUnder n (share_words ts)) (sym (d ∙ equal)) k.below);
+    }
 
-pub next_second : (x y : PackedShare) (fs ss ts : List PackedShare) (held held_second o : Option PackedShare) → held ≡ Some x → held_second ≡ Some y → x.word < y.word → IsBelowHeld held fs → IsBelowHeld held_second ss → IsPackedNext ss ts o → IsPackedTaken (with_held held fs ++ with_held held_second ss) (with_held held fs ++ with_held o ts) y
-next_second x y fs ss ts None held_second o d e l a b h = absurd (cc d)
-next_second x y fs ss ts (Some z) None o d e l a b h = absurd (cc e)
-next_second x y fs ss ts (Some z) (Some w) o d e l a b h =
-    let first : z ≡ x = cc d in
-    let second : w ≡ y = cc e in
-    let less : z.word < y.word = subst (λ (v : PackedShare). v.word < y.word) (sym first) l in
-    subst (λ v. IsPackedTaken ((z ∷ fs) ++ v ∷ ss) ((z ∷ fs) ++ with_held o ts) y) (sym second)
-    (take_second y (z ∷ fs) ss ts o (less, under_more z.word y.word (share_words fs) (omega arith) a) (subst (λ (v : PackedShare). AllUnder v.word (share_words ss)) second b) h)
+pub never_none : (old new : List PackedShare) (w : ℕ) (o : Option PackedShare) → IsGreatestWord old (Some w) → IsPackedNext old new o → o ≡ None → ⊥
+never_none old new w None g h e = never_empty old w g h.0
+never_none old new w (Some s) g h e = absurd (cc e)
 
-pub next_only_second : (y : PackedShare) (fs ss ts : List PackedShare) (held held_second o : Option PackedShare) → ((x : PackedShare) → held ≡ Some x → ⊥) → held_second ≡ Some y → IsBelowHeld held fs → IsBelowHeld held_second ss → IsPackedNext ss ts o → IsPackedTaken (with_held held fs ++ with_held held_second ss) (with_held held fs ++ with_held o ts) y
-next_only_second y fs ss ts (Some z) held_second o n e a b h = absurd (n z refl)
-next_only_second y fs ss ts None None o n e a b h = absurd (cc e)
-next_only_second y fs ss ts None (Some w) o n e a b h =
-    let second : w ≡ y = cc e in
-    subst (λ v. IsPackedTaken (fs ++ v ∷ ss) (fs ++ with_held o ts) y) (sym second)
-    (take_second y fs ss ts o (subst (λ vs. AllUnder y.word (share_words vs)) (sym a) tt) (subst (λ (v : PackedShare). AllUnder v.word (share_words ss)) second b) h)
+-- the front of shares that fall
+front_taken : (xs : List PackedShare) (ss : List PackedShare) (s : PackedShare) → xs ≡ s ∷ ss → AreFalling (share_words xs) → IsPackedTaken xs ss s × AreFalling (share_words ss)
+front_taken xs ss s e f =
+    let falling : AreFalling (share_words (s ∷ ss)) = subst (λ ys. AreFalling (share_words ys)) e f in
+    (subst (λ ys. IsPackedTaken ys ss s) (sym e) (record { same = same_itself _; above = λ n l. (l, under_more s.word n (share_words ss) (omega arith) falling.0); below = falling.0 }), falling.1)
 
--- both lists hold a share of the greatest word
-pub next_both : (x y z : PackedShare) (fs gs ss ts : List PackedShare) (held held_second o p : Option PackedShare) → held ≡ Some x → held_second ≡ Some y → x.word ≡ y.word → z.word ≡ x.word → Agree z.weight z.sum (x.weight + y.weight) (x.sum +ℤ y.sum) → IsBelowHeld held fs → IsBelowHeld held_second ss → IsPackedNext fs gs o → IsPackedNext ss ts p → IsPackedTaken (with_held held fs ++ with_held held_second ss) (with_held o gs ++ with_held p ts) z
-next_both x y z fs gs ss ts None held_second o p d e s t g a b h k = absurd (cc d)
-next_both x y z fs gs ss ts (Some v) None o p d e s t g a b h k = absurd (cc e)
-next_both x y z fs gs ss ts (Some v) (Some w) o p d e s t g a b h k =
-    let first : v ≡ x = cc d in
-    let second : w ≡ y = cc e in
-    let above : v.word ≡ z.word = ap (λ (u : PackedShare). u.word) first ∙ sym t in
-    let also : w.word ≡ z.word = ap (λ (u : PackedShare). u.word) second ∙ sym s ∙ sym t in
-    subst (λ u. IsPackedTaken ((u ∷ fs) ++ w ∷ ss) (with_held o gs ++ with_held p ts) z) (sym first)
-    (subst (λ u. IsPackedTaken ((x ∷ fs) ++ u ∷ ss) (with_held o gs ++ with_held p ts) z) (sym second) (record {
-      same = same_through _ _ _ (same_cons z _ _ (same_both (with_held o gs) (with_held p ts) fs ss (held_same fs gs o h) (held_same ss ts p k)))
-          (same_through _ _ _ (same_joined x y z (fs ++ ss) s t g) (same_cons x _ _ (same_moved fs ss y)));
-      below = under_both z.word (with_held o gs) (with_held p ts) (held_under z.word fs gs o h (subst (λ n. AllUnder n (share_words fs)) above a)) (held_under z.word ss ts p k (subst (λ n. AllUnder n (share_words ss)) also b));
-    }))
+front_greatest : (xs : List PackedShare) (ss : List PackedShare) (s : PackedShare) (w : ℕ) → xs ≡ s ∷ ss → AreFalling (share_words xs) → w ≡ s.word → IsGreatestWord xs (Some w)
+front_greatest xs ss s w e f g = subst (λ ys. IsGreatestWord ys (Some w)) (sym e) (greatest_of w ss s (subst (λ ys. AreFalling (share_words ys)) e f) g)
 
-pub next_none : (fs ss : List PackedShare) (held held_second : Option PackedShare) → ((x : PackedShare) → held ≡ Some x → ⊥) → ((y : PackedShare) → held_second ≡ Some y → ⊥) → IsBelowHeld held fs → IsBelowHeld held_second ss → with_held held fs ++ with_held held_second ss ≡ []
-next_none fs ss (Some x) held_second n k a b = absurd (n x refl)
-next_none fs ss None (Some y) n k a b = absurd (k y refl)
-next_none fs ss None None n k a b = ap (λ xs. xs ++ ss) a ∙ b
+pub stored_taken : (xs : List PackedShare) (k : ℕ) (x : PackedShare) → k < length xs → x ≡ slice_index_or xs k x → AreFalling (share_words (drop k xs)) → IsPackedTaken (drop k xs) (drop (k + 1) xs) x × AreFalling (share_words (drop (k + 1) xs))
+stored_taken xs k x h e f = front_taken (drop k xs) (drop (k + 1) xs) x (drop_at xs k x h e) f
+
+pub stored_greatest : (xs : List PackedShare) (k : ℕ) (x : PackedShare) → k < length xs → x ≡ slice_index_or xs k x → AreFalling (share_words (drop k xs)) → IsGreatestWord (drop k xs) (Some x.word)
+stored_greatest xs k x h e f = front_greatest (drop k xs) (drop (k + 1) xs) x x.word (drop_at xs k x h e) f refl
+
+row_at : (minus : Bool) (t : PackedTerm) (us : List PackedTerm) (k : ℕ) (u : PackedTerm) → k < length us → u ≡ slice_index_or us k u → row_shares minus t (drop k us) ≡ row_share minus t u ∷ row_shares minus t (drop (k + 1) us)
+row_at minus t us k u h e = ap (row_shares minus t) (drop_at us k u h e)
+
+pub row_taken : (minus : Bool) (t : PackedTerm) (us : List PackedTerm) (k : ℕ) (u : PackedTerm) (s : PackedShare) → k < length us → u ≡ slice_index_or us k u → s ≡ row_share minus t u → AreFalling (share_words (row_shares minus t (drop k us))) → IsPackedTaken (row_shares minus t (drop k us)) (row_shares minus t (drop (k + 1) us)) s × AreFalling (share_words (row_shares minus t (drop (k + 1) us)))
+row_taken minus t us k u s h e i f = front_taken _ _ s (row_at minus t us k u h e ∙ ap (λ x. x ∷ row_shares minus t (drop (k + 1) us)) (sym i)) f
+
+pub row_greatest : (minus : Bool) (t : PackedTerm) (us : List PackedTerm) (k : ℕ) (u : PackedTerm) → k < length us → u ≡ slice_index_or us k u → AreFalling (share_words (row_shares minus t (drop k us))) → IsGreatestWord (row_shares minus t (drop k us)) (Some (t.word + u.word))
+row_greatest minus t us k u h e f = front_greatest _ _ (row_share minus t u) (t.word + u.word) (row_at minus t us k u h e) f refl
 
 -- what is read in a layout
 pub under_after : (n : ℕ) (old new : List PackedShare) (s : PackedShare) → AllUnder n (share_words old) → IsPackedTaken old new s → AllUnder n (share_words new)

@@ -16,11 +16,11 @@ use Rattle.sparse_poly.specs.declared.entry.Share.{Share}
 use Rattle.sparse_poly.specs.declared.packed_entry.PackedTerm.{PackedTerm}
 use Rattle.sparse_poly.specs.declared.packed_entry.PackedShare.{PackedShare}
 use Rattle.sparse_poly.specs.Polynomials.{row, products, negated}
-use Rattle.sparse_poly.specs.Contributions.{signed_products, higher, degree_of, IsFalling}
+use Rattle.sparse_poly.specs.Contributions.{signed_products, contributions, higher, degree_of, IsFalling}
 use Rattle.sparse_poly.specs.Standing.{Stands, AllBelow, IsDescending}
 use Rattle.sparse_poly.specs.Packing.{AllFit}
 use Rattle.monomial.specs.Layouts.{AreFalling, IsLayout, word_of, monomial_of, FitsLayout}
-use Rattle.sparse_poly.specs.Packed.{term_read, terms_read, shares_read, term_words, share_words, AreProducts, AllPackedIn, IsPackedIn, AllUnder, AllHalves, IsPackedProduct, AreProductShares, IsSameInFewer}
+use Rattle.sparse_poly.specs.Packed.{term_read, terms_read, shares_read, term_words, share_words, AreProducts, AllPackedIn, IsPackedIn, IsPackedList, AllUnder, AllHalves, IsPackedProduct, AreProductShares, IsSameInFewer}
 use Rattle.sparse_poly.proofs.Adding.{degree_of-append}
 use Rattle.sparse_poly.proofs.Descending.{all_map, all_more, all_front, all_back}
 use Rattle.monomial.proofs.Words.{word_of-times, word_half, monomial_of-word, IsPowers-monomial_of, IsMonomial-monomial_of, lower_monomial, fits_small, fits_known, fitting_monomial}
@@ -143,20 +143,20 @@ halves_of vs [] a = tt
 halves_of vs (t ∷ ts) a = (subst (λ w. w + w < 2 ^ (16 * length vs)) (sym a.0.word) (word_half vs (monomial_of vs t.word) (λ v. fits_small vs _ v a.0.fits)), halves_of vs ts a.1)
 
 -- the words of a polynomial fall
-pub words_fall : (vs : List ℕ) (us : List Term) (qs : List PackedTerm) → IsLayout vs → terms_read (monomial_of vs) qs ≡ us → AllPackedIn vs qs → IsFalling us → AreFalling (term_words qs)
-words_fall vs us qs y f b h = falling_words vs qs y b (subst IsFalling (sym f) h)
+pub words_fall : (vs : List ℕ) (us : List Term) (qs : List PackedTerm) → IsLayout vs → IsPackedList vs us qs → IsFalling us → AreFalling (term_words qs)
+words_fall vs us qs y p h = falling_words vs qs y p.words (subst IsFalling (sym p.terms) h)
 
 -- what stands for the contributions to a product of packed terms
-pub shares_under : (vs : List ℕ) (minus : Bool) (ps qs : List PackedTerm) (ss : List PackedShare) → AllPackedIn vs ps → AllPackedIn vs qs → AreProductShares minus ps qs ss → AllUnder (2 ^ (16 * length vs)) (share_words ss)
+shares_under : (vs : List ℕ) (minus : Bool) (ps qs : List PackedTerm) (ss : List PackedShare) → AllPackedIn vs ps → AllPackedIn vs qs → AreProductShares minus ps qs ss → AllUnder (2 ^ (16 * length vs)) (share_words ss)
 shares_under vs minus ps qs ss a b g = g.under (2 ^ (16 * length vs)) (halves_of vs ps a) (halves_of vs qs b)
 
 module _ (vs : List ℕ) (minus : Bool) (ts us : List Term) (ps qs : List PackedTerm) (y : IsLayout vs) (e : terms_read (monomial_of vs) ps ≡ ts) (f : terms_read (monomial_of vs) qs ≡ us) (a : AllPackedIn vs ps) (b : AllPackedIn vs qs) where
-  pub shares_stand : (ss : List PackedShare) → AreProductShares minus ps qs ss → Stands (shares_read (monomial_of vs) ss) (signed_products minus ts us)
+  shares_stand : (ss : List PackedShare) → AreProductShares minus ps qs ss → Stands (shares_read (monomial_of vs) ss) (signed_products minus ts us)
   shares_stand ss g =
       subst (λ xs. Stands (shares_read (monomial_of vs) ss) (signed_products minus xs us)) e
       (subst (λ xs. Stands (shares_read (monomial_of vs) ss) (signed_products minus (terms_read (monomial_of vs) ps) xs)) f (g.sums (monomial_of vs) (are_products vs ps qs y a b)))
 
-  pub product_degree : degree_of (signed_products minus ts us) ≡ None
+  product_degree : degree_of (signed_products minus ts us) ≡ None
   product_degree = subst (λ xs. degree_of (signed_products minus xs us) ≡ None) e (subst (λ xs. degree_of (signed_products minus (terms_read (monomial_of vs) ps) xs) ≡ None) f (degree_of-signed minus _ _ (degree_of-products vs ps qs y a b)))
 
 -- the first k terms fit a layout
@@ -198,7 +198,27 @@ one_or_two (x ∷ []) h = refl
 one_or_two (x ∷ y ∷ []) h = refl
 one_or_two (x ∷ y ∷ z ∷ ts) h = absurd (omega arith)
 
--- two lists of shares read from one merge
-pub Stands-both_read : (vs : List ℕ) (new fs bs : List PackedShare) (cs ds : List Term) → IsSameInFewer new (fs ++ bs) → Stands (shares_read (monomial_of vs) fs) cs → Stands (shares_read (monomial_of vs) bs) ds → Stands (shares_read (monomial_of vs) new) (cs ++ ds)
-Stands-both_read vs new fs bs cs ds h f b m =
-    agree_through _ _ _ _ _ _ (h.sums (monomial_of vs) m) (subst (λ ss. Stands ss (cs ++ ds)) (sym (shares_read-append (monomial_of vs) fs bs)) (Stands-append _ _ _ _ f b) m)
+-- a product, and what its shares stand for
+module _ (vs : List ℕ) (y : IsLayout vs) (minus : Bool) (ts us : List Term) (ps qs : List PackedTerm) (p : IsPackedList vs ts ps) (q : IsPackedList vs us qs) (ss : List PackedShare) (g : AreProductShares minus ps qs ss) where
+  pub multiplied_under : AllUnder (2 ^ (16 * length vs)) (share_words ss)
+  multiplied_under = shares_under vs minus ps qs ss p.words q.words g
+
+  pub multiplied_stand : Stands (shares_read (monomial_of vs) ss) (signed_products minus ts us)
+  multiplied_stand = shares_stand vs minus ts us ps qs y p.terms q.terms p.words q.words ss g
+
+  pub multiplied_degree : degree_of (signed_products minus ts us) ≡ None
+  multiplied_degree = product_degree vs minus ts us ps qs y p.terms q.terms p.words q.words
+
+-- a combination, likewise
+module _ (vs : List ℕ) (y : IsLayout vs) (l q a p : List Term) (ls qs as_ ps : List PackedTerm) (pl : IsPackedList vs l ls) (pq : IsPackedList vs q qs) (pa : IsPackedList vs a as_) (pp : IsPackedList vs p ps) (fs bs : List PackedShare) (f : AreProductShares false ls qs fs) (b : AreProductShares true as_ ps bs) where
+  pub combined_under : AllUnder (2 ^ (16 * length vs)) (share_words (fs ++ bs))
+  combined_under = under_both (2 ^ (16 * length vs)) fs bs (multiplied_under vs y false l q ls qs pl pq fs f) (multiplied_under vs y true a p as_ ps pa pp bs b)
+
+  pub combined_stand : Stands (shares_read (monomial_of vs) (fs ++ bs)) (contributions l q a p)
+  combined_stand = subst (λ ss. Stands ss (contributions l q a p)) (sym (shares_read-append (monomial_of vs) fs bs)) (Stands-append _ _ _ _ (multiplied_stand vs y false l q ls qs pl pq fs f) (multiplied_stand vs y true a p as_ ps pa pp bs b))
+
+  pub combined_degree : degree_of (contributions l q a p) ≡ None
+  combined_degree =
+      degree_of-append (signed_products false l q) (signed_products true a p)
+      ∙ ap (λ o. higher o (degree_of (signed_products true a p))) (multiplied_degree vs y false l q ls qs pl pq fs f)
+      ∙ multiplied_degree vs y true a p as_ ps pa pp bs b

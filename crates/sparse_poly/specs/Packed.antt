@@ -1,5 +1,5 @@
 -- Packed terms and shares, and what they stand for where each word is read as a monomial.
-use Rattle.std.specs.Prelude.{◌≡◌, ◌<◌, ◌≤◌, ℕ, ◌+◌, ◌-◌, ◌*◌, ◌^◌, Bool, ◌*ℤ◌, unsigned_abs, List, [], ◌∷◌, ◌++◌, length, drop}
+use Rattle.std.specs.Prelude.{◌≡◌, ◌<◌, ◌≤◌, ◌↔◌, ℕ, ◌+◌, Bool, ◌*ℤ◌, unsigned_abs, List, [], ◌∷◌, ◌++◌, length}
 use Rattle.std.proofs.Common.{le_refl}
 use Rattle.std.specs.declared.option.Option.{Option}
 use Rattle.std.specs.declared.option.Option.TheVariants.{None, Some}
@@ -51,6 +51,11 @@ pub record IsPackedIn (vs : List ℕ) (t : PackedTerm) : Type 0 where
 
 abbrev pub AllPackedIn : List ℕ → List PackedTerm → Type 0
 AllPackedIn vs ts = AllByRecursion (λ (t : PackedTerm). IsPackedIn vs t) ts
+
+-- the packed terms of a list whose terms all fit a layout
+pub record IsPackedList (vs : List ℕ) (ts : List Term) (ps : List PackedTerm) : Type 0 where
+  pub terms : terms_read (monomial_of vs) ps ≡ ts
+  pub words : AllPackedIn vs ps
 
 -- each word is below a bound, and twice each word is
 abbrev pub AllUnder : ℕ → List ℕ → Type 0
@@ -107,22 +112,18 @@ pub record IsSameInFewer (new old : List PackedShare) : Type 0 where
   pub fewer : length new ≤ length old
   pub under : (n : ℕ) → AllUnder n (share_words old) → AllUnder n (share_words new)
 
--- s was taken from shares, and what is left is below it
+-- the greatest word of shares: all words are below a number exactly if it is
+abbrev pub IsGreatestWord : List PackedShare → Option ℕ → Type 0
+IsGreatestWord ss (Some w) = (n : ℕ) → AllUnder n (share_words ss) ↔ (w < n)
+IsGreatestWord ss None = ss ≡ []
+
+-- s was taken from shares of which none is above it, and what is left is below it
 pub record IsPackedTaken (old new : List PackedShare) (s : PackedShare) : Type 0 where
   pub same : IsSameInFewer (s ∷ new) old
+  pub above : (n : ℕ) → s.word < n → AllUnder n (share_words old)
   pub below : AllUnder s.word (share_words new)
 
 -- the next of some shares
 abbrev pub IsPackedNext : List PackedShare → List PackedShare → Option PackedShare → Type 0
 IsPackedNext old new (Some s) = IsPackedTaken old new s
 IsPackedNext old new None = (old ≡ []) × (new ≡ [])
-
--- shares with one before them that is held
-abbrev pub with_held : Option PackedShare → List PackedShare → List PackedShare
-with_held (Some s) ss = s ∷ ss
-with_held None ss = ss
-
--- shares are below the one that is held, and there are none where none is held
-abbrev pub IsBelowHeld : Option PackedShare → List PackedShare → Type 0
-IsBelowHeld (Some s) ss = AllUnder s.word (share_words ss)
-IsBelowHeld None ss = ss ≡ []

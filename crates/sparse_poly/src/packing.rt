@@ -6,16 +6,18 @@ ghost use Rattle.sparse_poly.specs.Polynomials.{products};
 ghost use Rattle.sparse_poly.specs.Standing.{IsLightSum, IsHeavyFault};
 ghost use Rattle.sparse_poly.specs.Packing.{AllFit};
 ghost use Rattle.monomial.specs.Layouts.{monomial_of, AreFalling, IsLayout};
-ghost use Rattle.sparse_poly.specs.Packed.{terms_read, shares_read, term_words, share_words, AllPackedIn, AllUnder, AreProductShares, IsRowAdded, IsPackedProduct, IsPackedMerge};
+ghost use Rattle.sparse_poly.specs.Packed.{shares_read, term_words, share_words, IsPackedList, AllUnder, AreProductShares, IsRowAdded, IsPackedProduct, IsPackedMerge};
 
 use crate::packed_entry::{PackedShare, PackedTerm};
-use crate::sources::{FallingShares, Merged, Product, StoredShares, TermRow, joined, share_of};
+use crate::sources::{FallingShares, Merged, StoredShares, TermRow, joined, share_of};
 use crate::squeezing::trimmed;
 use crate::{PolyFault, Term};
-use either::Either;
 use monomial::{Layout, Monomial};
 use std::alloc::{AllocError, Global};
 use std::cmp::Ordering;
+
+// The contributions of two terms, made as they are read.
+type Pair<'a> = Merged<TermRow<'a>, TermRow<'a>>;
 
 /// The terms of `l*q - a*p`, by words.
 pub fn packed_combination(
@@ -41,9 +43,14 @@ pub fn packed_combination(
     let qs = packed(alloc, layout, q)?;
     let as_ = packed(alloc, layout, a)?;
     let ps = packed(alloc, layout, p)?;
-    let first = product(alloc, &ls, &qs, false)?;
-    let second = product(alloc, &as_, &ps, true)?;
-    squeeze(alloc, layout, Merged::new(first, second))
+    if ls.len() <= 2 && as_.len() <= 2 {
+        let first = pair(&ls, &qs, false);
+        let second = pair(&as_, &ps, true);
+        return squeeze(alloc, layout, Merged { first, second });
+    }
+    let first = stored(alloc, &ls, &qs, false)?;
+    let second = stored(alloc, &as_, &ps, true)?;
+    squeeze(alloc, layout, Merged { first, second })
 }
 
 /// The terms of `l*q`, by words.
@@ -62,30 +69,40 @@ pub fn packed_multiplication(
 {
     let ts = packed(alloc, layout, l)?;
     let us = packed(alloc, layout, q)?;
+    if ts.len() <= 2 {
+        return squeeze(alloc, layout, pair(&ts, &us, false));
+    }
     let half = ts.len() / 2;
-    let first = product(alloc, &ts[..half], &us, false)?;
-    let second = product(alloc, &ts[half..], &us, false)?;
-    squeeze(alloc, layout, Merged::new(first, second))
+    let first = stored(alloc, &ts[..half], &us, false)?;
+    let second = stored(alloc, &ts[half..], &us, false)?;
+    squeeze(alloc, layout, Merged { first, second })
 }
 
-// The contributions to a product.
-fn product<'a>(
+// The contributions to a product of at most two terms.
+fn pair<'a>(ts: &[PackedTerm], us: &'a [PackedTerm], minus: bool) -> Pair<'a>
+    requires few { length ts.now ≤ 2 }
+    requires falling { AreFalling (term_words us.now) }
+    ensures sums { AreProductShares minus ts.now us.now (⟦<Pair<'static> as FallingShares>⟧.left result) }
+    ensures falls { ⟦<Pair<'static> as FallingShares>⟧.falls result }
+{
+    Merged {
+        first: row_at(ts, 0, us, minus),
+        second: row_at(ts, 1, us, minus),
+    }
+}
+
+// The contributions to a product, stored.
+fn stored(
     alloc: Global,
     ts: &[PackedTerm],
-    us: &'a [PackedTerm],
+    us: &[PackedTerm],
     minus: bool,
-) -> Result<Product<'a>, AllocError>
+) -> Result<StoredShares, AllocError>
     requires { AreFalling (term_words us.now) }
-    ensures sums { IfOk result (λ v. AreProductShares minus ts.now us.now (⟦<Product<'static> as FallingShares>⟧.left v)) }
-    ensures falls { IfOk result (⟦<Product<'static> as FallingShares>⟧.falls) }
+    ensures sums { IfOk result (λ v. AreProductShares minus ts.now us.now (⟦<StoredShares as FallingShares>⟧.left v)) }
+    ensures falls { IfOk result (⟦<StoredShares as FallingShares>⟧.falls) }
 {
-    if ts.len() > 2 {
-        let shares = part(alloc, ts, us, minus)?;
-        return Ok(Either::Right(StoredShares::new(shares)));
-    }
-    let first = row_at(ts, 0, us, minus);
-    let second = row_at(ts, 1, us, minus);
-    Ok(Either::Left(Merged::new(first, second)))
+    Ok(StoredShares::new(part(alloc, ts, us, minus)?))
 }
 
 // The contributions of the term at a place, if there is one.
@@ -106,8 +123,7 @@ fn packed(alloc: Global, layout: &Layout, terms: &[Term]) -> Result<Vec<PackedTe
     requires layout { IsLayout layout.now }
     requires poly { IsPoly terms.now }
     requires fits { AllFit layout.now terms.now }
-    ensures terms { IfOk result (λ v. terms_read (monomial_of layout.now) v.items ≡ terms.now) }
-    ensures words { IfOk result (λ v. AllPackedIn layout.now v.items) }
+    ensures { IfOk result (λ v. IsPackedList layout.now terms.now v.items) }
 {
     let mut packed = Vec::with_capacity(alloc, terms.len())?;
     for term in terms {

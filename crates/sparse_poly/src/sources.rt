@@ -1,15 +1,13 @@
 //! Lists of shares that are read from the greatest word down, stored or made as they are read.
-ghost use Rattle.std.specs.Prelude.{◌≡◌, ◌+◌, ◌+ℤ◌, List, [], ◌++◌, length, drop};
+ghost use Rattle.std.specs.Prelude.{◌≡◌, ◌+◌, ◌+ℤ◌, List, ◌++◌, drop};
 ghost use Rattle.sparse_poly.specs.declared.packed_entry.PackedShare.{PackedShare};
 ghost use Rattle.sparse_poly.specs.Standing.{Agree};
-ghost use Rattle.sparse_poly.specs.Packed.{term_words, share_words, row_share, row_shares, with_held, IsBelowHeld, IsPackedNext, IsSameInFewer};
+ghost use Rattle.sparse_poly.specs.Packed.{share_words, row_share, row_shares, IsGreatestWord, IsPackedNext};
 ghost use Rattle.monomial.specs.Layouts.{AreFalling};
-ghost use Rattle.either.specs.Either.{either, MatchEither};
 
 use crate::multiplying::kept_product;
 use crate::packed_entry::{PackedShare, PackedTerm};
 use crate::weighing::joined_sum;
-use either::Either;
 use std::cmp::Ordering;
 
 /// Shares that are read from the greatest word down.
@@ -22,6 +20,11 @@ pub trait FallingShares {
 
     /// How many shares are left, if no two have one word.
     fn count(&self) -> usize;
+
+    /// The greatest word.
+    fn front(&self) -> Option<u128>
+        requires { falls self.now }
+        ensures { IsGreatestWord (left self.now) result };
 
     /// Takes the share of the greatest word.
     fn next(&mut self) -> Option<PackedShare>
@@ -65,6 +68,14 @@ impl<'a> FallingShares for TermRow<'a> {
     }
 
     #[inline(always)]
+    fn front(&self) -> Option<u128> {
+        if self.place >= self.others.len() {
+            return None;
+        }
+        Some(self.term.word + self.others[self.place].word)
+    }
+
+    #[inline(always)]
     fn next(&mut self) -> Option<PackedShare> {
         if self.place >= self.others.len() {
             return None;
@@ -103,6 +114,14 @@ impl FallingShares for StoredShares {
     }
 
     #[inline(always)]
+    fn front(&self) -> Option<u128> {
+        if self.place >= self.shares.len() {
+            return None;
+        }
+        Some(self.shares[self.place].word)
+    }
+
+    #[inline(always)]
     fn next(&mut self) -> Option<PackedShare> {
         if self.place >= self.shares.len() {
             return None;
@@ -113,100 +132,50 @@ impl FallingShares for StoredShares {
     }
 }
 
-/// The merge of two lists, made as it is read. The next share of each is held.
+/// The merge of two lists, made as it is read.
 #[derive(Drop)]
 pub struct Merged<A, B> {
-    first: A,
-    second: B,
-    next_first: Option<PackedShare>,
-    next_second: Option<PackedShare>,
+    pub first: A,
+    pub second: B,
 }
 
-impl<A: FallingShares + Drop, B: FallingShares + Drop> Merged<A, B> {
-    /// The merge of two lists, of which nothing is read yet.
-    #[inline(always)]
-    pub fn new(first: A, second: B) -> Merged<A, B>
-        requires first { A.falls first }
-        requires second { B.falls second }
-        ensures same { IsSameInFewer (⟦<Merged<A, B> as FallingShares>⟧.left result) (A.left first ++ B.left second) }
-        ensures falls { ⟦<Merged<A, B> as FallingShares>⟧.falls result }
-    {
-        let mut first = first;
-        let mut second = second;
-        let next_first = first.next();
-        let next_second = second.next();
-        Merged {
-            first,
-            second,
-            next_first,
-            next_second,
-        }
-    }
-}
+impl<A: FallingShares, B: FallingShares> FallingShares for Merged<A, B> {
+    ghost left = { λ m. A.left m.first ++ B.left m.second };
 
-impl<A: FallingShares + Drop, B: FallingShares + Drop> FallingShares for Merged<A, B> {
-    ghost left = { λ m. with_held m.next_first (A.left m.first) ++ with_held m.next_second (B.left m.second) };
-
-    ghost falls = { λ m. A.falls m.first × B.falls m.second × IsBelowHeld m.next_first (A.left m.first) × IsBelowHeld m.next_second (B.left m.second) };
+    ghost falls = { λ m. A.falls m.first × B.falls m.second };
 
     #[inline(always)]
     fn count(&self) -> usize {
-        self.first
-            .count()
-            .saturating_add(self.second.count())
-            .saturating_add(2)
+        self.first.count().saturating_add(self.second.count())
+    }
+
+    #[inline(always)]
+    fn front(&self) -> Option<u128> {
+        let Some(x) = self.first.front() else {
+            return self.second.front();
+        };
+        match self.second.front() {
+            Some(y) => Some(x.max(y)),
+            None => Some(x),
+        }
     }
 
     #[inline(always)]
     fn next(&mut self) -> Option<PackedShare> {
-        let Some(x) = self.next_first else {
-            let y = self.next_second?;
-            self.next_second = self.second.next();
-            return Some(y);
+        let Some(x) = self.first.front() else {
+            return self.second.next();
         };
-        let Some(y) = self.next_second else {
-            self.next_first = self.first.next();
-            return Some(x);
+        let Some(y) = self.second.front() else {
+            return self.first.next();
         };
-        match x.word.cmp(&y.word) {
-            Ordering::Less => {
-                self.next_second = self.second.next();
-                Some(y)
-            }
+        match x.cmp(&y) {
+            Ordering::Less => self.second.next(),
             Ordering::Equal => {
-                self.next_first = self.first.next();
-                self.next_second = self.second.next();
+                let x = self.first.next()?;
+                let y = self.second.next()?;
                 Some(joined(x, y))
             }
-            Ordering::Greater => {
-                self.next_first = self.first.next();
-                Some(x)
-            }
-        }
-    }
-}
-
-/// The contributions to a product: those of one or two terms are made as they are read, and those of more terms are stored.
-pub type Product<'a> = Either<Merged<TermRow<'a>, TermRow<'a>>, StoredShares>;
-
-impl<A: FallingShares, B: FallingShares> FallingShares for Either<A, B> {
-    ghost left = { either A.left B.left };
-
-    ghost falls = { λ s. MatchEither s A.falls B.falls };
-
-    #[inline(always)]
-    fn count(&self) -> usize {
-        match self {
-            Either::Left(shares) => shares.count(),
-            Either::Right(shares) => shares.count(),
-        }
-    }
-
-    #[inline(always)]
-    fn next(&mut self) -> Option<PackedShare> {
-        match self {
-            Either::Left(shares) => shares.next(),
-            Either::Right(shares) => shares.next(),
+            Ordering::Greater => self.first.next(),
         }
     }
 }

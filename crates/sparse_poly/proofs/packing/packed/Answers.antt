@@ -4,7 +4,7 @@ use Rattle.monomial.specs.Monomials.{IsMonomial}
 use Rattle.monomial.proofs.Words.{word_small}
 use Rattle.sparse_poly.specs.declared.Term.{Term}
 use Rattle.sparse_poly.proofs.Rows.{all_at}
-use Rattle.sparse_poly.proofs.PackedTerms.{PackedSoFar-more}
+use Rattle.sparse_poly.proofs.PackedTerms.{PackedSoFar-more, PackedSoFar-end}
 use Rattle.sparse_poly.proofs.packing.packed.Goals as goal
 
 pub invariant_of-push_reserved : goal.invariant_of-push_reserved
@@ -18,3 +18,6 @@ loop-term-preserved c =
       so_far = rw c.push_reserved.ensures.items (PackedSoFar-more c.args.layout.now c.args.terms.now c.loop-term.term-index c.term-item.result _ c.loop-term.packed.items c.requires.layout c.loop-term-test.true c.term-item.is monomial c.in-Some.ensures.fits c.in-Some.ensures.value same c.loop-term.invariant.so_far);
       room = omega (arith, c.push_reserved.ensures.len, c.push_reserved.ensures.capacity, c.loop-term.invariant.room, c.loop-term-test.true);
     }
+
+pub returns : goal.returns
+returns c = record { terms = PackedSoFar-end c.args.layout.now c.args.terms.now c.loop-term.term-index c.loop-term.packed.items (omega arith) c.loop-term.invariant.so_far; words = c.loop-term.invariant.so_far.words }
