@@ -113,7 +113,7 @@ pub fn multiply_keys<const ROOM: usize>(
     None
 }
 
-/// The order of two lists of keys: lexicographic.
+/// The lexicographic order of two lists of keys.
 #[inline(always)]
 pub fn order_of_keys(first: &[Key], second: &[Key]) -> Ordering
     ensures { result ≡ monomial_cmp (map power_of first.now) (map power_of second.now) }

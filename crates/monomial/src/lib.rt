@@ -214,6 +214,7 @@ impl Monomial {
     }
 
     /// The product, whose exponents are the sums. `Degree` comes exactly where a sum is above 65,535, with the greatest such variable.
+    #[inline(always)]
     pub fn times(&self, other: &Monomial) -> Result<Monomial, MonoFault>
         ensures { MatchResult result (IsProductOf self.now other.now) (IsFaultOf self.now other.now) }
     {
@@ -354,7 +355,7 @@ fn quotient(powers: &Powers, divisor: &Powers) -> Result<Powers, AllocError>
     Ok(left)
 }
 
-// The product of two lists of powers, made as a list: one at least is not stored as keys, or as a word.
+// The product of two lists of powers, of which one at least is stored as a list.
 fn product(first: &Powers, second: &Powers) -> Result<Powers, MonoFault>
     ensures { MatchResult result (IsProductOf first.now second.now) (IsFaultOf first.now second.now) }
 {
