@@ -1,6 +1,6 @@
 -- The order of keys is that of their powers.
-use Rattle.std.specs.Prelude.{◌≡◌, ℕ, ◌/◌, ◌%◌, ◌<◌, List, [], ◌∷◌, map, refl}
-use Rattle.std.proofs.Common.{arith, ◌∙◌, ap}
+use Rattle.std.specs.Prelude.{◌≡◌, ◌≢◌, ℕ, ◌/◌, ◌%◌, ◌<◌, List, [], ◌∷◌, map, drop, length, slice_index_or, refl}
+use Rattle.std.proofs.Common.{arith, ◌∙◌, ap, drop-cons}
 use Rattle.std.specs.declared.cmp.Ordering.{Ordering}
 use Rattle.std.specs.declared.cmp.Ordering.TheVariants.{Less, Equal, Greater}
 use Rattle.std.specs.Cmp.{nat_cmp_is}
@@ -35,3 +35,12 @@ same_order R S e (x ∷ xs) (y ∷ ys) = ap (λ o. ordering_then o (slice_cmp R 
 -- two lists of keys in order of their words
 pub keys_order : (ks ls : List Key) → monomial_cmp (map power_of ks) (map power_of ls) ≡ slice_cmp (λ k l. nat_cmp k.word l.word) ks ls
 keys_order ks ls = lex_map power_of power_cmp ks ls ∙ same_order _ _ key_order ks ls
+
+-- the first two words that differ decide
+pub differing : (ks ls : List Key) (i : ℕ) (d e : Key) → i < length ks → i < length ls → (slice_index_or ks i d).word ≢ (slice_index_or ls i e).word → slice_cmp (λ k l. nat_cmp k.word l.word) (drop i ks) (drop i ls) ≡ nat_cmp (slice_index_or ks i d).word (slice_index_or ls i e).word
+differing ks ls i d e h g n = rw (drop-cons ks i d h, drop-cons ls i e g) (decided (nat_cmp (slice_index_or ks i d).word (slice_index_or ls i e).word) _ (ranked (slice_index_or ks i d).word (slice_index_or ls i e).word _ refl))
+  where
+    decided : (o p : Ordering) → MatchOrdering o ((slice_index_or ks i d).word < (slice_index_or ls i e).word) ((slice_index_or ks i d).word ≡ (slice_index_or ls i e).word) ((slice_index_or ls i e).word < (slice_index_or ks i d).word) → ordering_then o p ≡ o
+    decided Less p m = refl
+    decided Equal p m = absurd (n m)
+    decided Greater p m = refl

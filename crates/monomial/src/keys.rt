@@ -1,13 +1,15 @@
 //! Powers in one word each, and lists of at most eight of them.
 ghost use Rattle.std.specs.Prelude.{◌≡◌, ◌≢◌, ◌<◌, ◌≤◌, ◌/◌, ◌%◌, ℕ, ◌+◌, List, [], ◌∷◌, ◌++◌, IfOk, OnOk, MatchOption, map, length, slice_index_or};
 ghost use Rattle.monomial.specs.Keys.{power_of};
-ghost use Rattle.monomial.specs.KeyProducts.{IsKeyProduct};
+ghost use Rattle.std.specs.declared.option.Option.TheVariants.{Some};
+ghost use Rattle.monomial.specs.Monomials.{monomial_cmp, monomial_times, too_high, IsProductOf};
 
 use arrayvec::ArrayVec;
 use std::alloc::{AllocError, Global};
+use std::cmp::Ordering;
 
 /// The number of powers that are kept in the value itself.
-const FEW: usize = 8;
+pub const FEW: usize = 8;
 
 /// A power of a variable below 65,536 in one word: the variable times 65,536, and the exponent. Keys are ordered by
 /// their variables, then by their exponents.
@@ -69,61 +71,63 @@ impl Key {
     }
 }
 
-/// What the product of two lists of keys is.
-#[derive(Drop)]
-pub enum KeyProduct {
-    /// At most eight powers.
-    Made(ArrayVec<Key, 8>),
-    /// The exponent of this variable would be above 65,535, and that of no greater one.
-    TooHigh(u32),
-    /// The product has more than eight powers.
-    TooMany,
-}
-
-/// The product of two lists of keys.
+/// Multiplies two lists of keys into an empty list that has room for all of them. Where an exponent would be above 65,535, the greatest such variable is the answer.
 #[inline(always)]
-pub fn product_of_keys(first: &[Key], second: &[Key]) -> KeyProduct
-    ensures { IsKeyProduct (map power_of first.now) (map power_of second.now) result }
+pub fn multiply_keys<const ROOM: usize>(
+    first: &[Key],
+    second: &[Key],
+    product: &mut ArrayVec<Key, ROOM>,
+) -> Option<u32>
+    requires empty { product.old.items ≡ [] }
+    requires room { length first.now + length second.now ≤ ROOM }
+    ensures { MatchOption result (IsProductOf (map power_of first.now) (map power_of second.now) (map power_of product.new.items)) (λ v. too_high (monomial_times (map power_of first.now) (map power_of second.now)) ≡ Some v) }
 {
-    let mut keys: ArrayVec<Key, 8> = ArrayVec::new();
     let mut i = 0;
     let mut j = 0;
     'both: while i < first.len() && j < second.len() {
-        if keys.is_full() {
-            return KeyProduct::TooMany;
-        }
         let x = key_at(first, i);
         let y = key_at(second, j);
         if x.variable() < y.variable() {
-            keys.push(y);
+            product.push(y);
             j += 1;
         } else if y.variable() < x.variable() {
-            keys.push(x);
+            product.push(x);
             i += 1;
         } else {
             let Some(key) = x.times(y) else {
-                return KeyProduct::TooHigh(x.variable());
+                return Some(x.variable());
             };
-            keys.push(key);
+            product.push(key);
             i += 1;
             j += 1;
         }
     }
     'left: while i < first.len() {
-        if keys.is_full() {
-            return KeyProduct::TooMany;
-        }
-        keys.push(key_at(first, i));
+        product.push(key_at(first, i));
         i += 1;
     }
     'right: while j < second.len() {
-        if keys.is_full() {
-            return KeyProduct::TooMany;
-        }
-        keys.push(key_at(second, j));
+        product.push(key_at(second, j));
         j += 1;
     }
-    KeyProduct::Made(keys)
+    None
+}
+
+/// The lexicographic order of two lists of keys.
+#[inline(always)]
+pub fn order_of_keys(first: &[Key], second: &[Key]) -> Ordering
+    ensures { result ≡ monomial_cmp (map power_of first.now) (map power_of second.now) }
+{
+    let mut i = 0;
+    'keys: while i < first.len() && i < second.len() {
+        let x = first[i].word;
+        let y = second[i].word;
+        if x != y {
+            return x.cmp(&y);
+        }
+        i += 1;
+    }
+    first.len().cmp(&second.len())
 }
 
 /// The key at a place.

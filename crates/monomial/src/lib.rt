@@ -13,6 +13,8 @@ mod layout;
 mod powers;
 mod reading;
 
+use arrayvec::ArrayVec;
+use keys::multiply_keys;
 use laid::Laid;
 pub use layout::Layout;
 use layout::lane;
@@ -212,7 +214,25 @@ impl Monomial {
     }
 
     /// The product, whose exponents are the sums. `Degree` comes exactly where a sum is above 65,535, with the greatest such variable.
+    #[inline(always)]
     pub fn times(&self, other: &Monomial) -> Result<Monomial, MonoFault>
+        ensures { MatchResult result (IsProductOf self.now other.now) (IsFaultOf self.now other.now) }
+    {
+        let Some((first, second)) = self.powers.few_keys(&other.powers) else {
+            return self.times_of_any(other);
+        };
+        let mut product = ArrayVec::new();
+        if let Some(var) = multiply_keys(first, second, &mut product) {
+            return Err(MonoFault::Degree { var });
+        }
+        Ok(Monomial {
+            powers: Powers::of_keys(self.powers.allocator(), product),
+        })
+    }
+
+    // The product, where it may have more than eight powers, or a monomial is not stored as keys.
+    #[inline(never)]
+    fn times_of_any(&self, other: &Monomial) -> Result<Monomial, MonoFault>
         ensures { MatchResult result (IsProductOf self.now other.now) (IsFaultOf self.now other.now) }
     {
         let powers = self.powers.times(&other.powers)?;
@@ -335,7 +355,7 @@ fn quotient(powers: &Powers, divisor: &Powers) -> Result<Powers, AllocError>
     Ok(left)
 }
 
-// The product of two lists of powers, made as a list: mostly it has more than eight powers, or great variables.
+// The product of two lists of powers, of which one at least is stored as a list.
 fn product(first: &Powers, second: &Powers) -> Result<Powers, MonoFault>
     ensures { MatchResult result (IsProductOf first.now second.now) (IsFaultOf first.now second.now) }
 {

@@ -6,7 +6,7 @@ ghost use Rattle.monomial.specs.Layouts.{IsWordIn};
 ghost use Rattle.monomial.specs.Readings.{left_powers};
 ghost use Rattle.monomial.specs.Keys.{power_of};
 
-use crate::keys::{Key, KeyProduct, listed, product_of_keys, same_keys};
+use crate::keys::{FEW, Key, listed, multiply_keys, order_of_keys, same_keys};
 use crate::laid::Laid;
 use crate::layout::Layout;
 use crate::reading::PowersLeft;
@@ -60,6 +60,17 @@ impl Powers {
     {
         Powers {
             stored: Stored::Many(powers),
+            alloc,
+        }
+    }
+
+    /// The powers of keys.
+    #[inline(always)]
+    pub fn of_keys(alloc: Global, keys: ArrayVec<Key, 8>) -> Powers
+        ensures { result ≡ map power_of keys.items }
+    {
+        Powers {
+            stored: Stored::Few(keys),
             alloc,
         }
     }
@@ -125,6 +136,19 @@ impl Powers {
     /// The allocator.
     pub fn allocator(&self) -> Global {
         self.alloc
+    }
+
+    /// The keys of both, if both are stored so, and together they are at most eight.
+    #[inline(always)]
+    pub fn few_keys<'a>(&'a self, other: &'a Powers) -> Option<(&'a [Key], &'a [Key])>
+        ensures { IfSome result (λ k. (length k.0.now + length k.1.now ≤ 8) × (map power_of k.0.now ≡ self.now) × (map power_of k.1.now ≡ other.now)) }
+    {
+        if let (Stored::Few(first), Stored::Few(second)) = (&self.stored, &other.stored) {
+            if first.len() + second.len() <= FEW {
+                return Some((first.as_slice(), second.as_slice()));
+            }
+        }
+        None
     }
 
     /// The number of powers.
@@ -207,18 +231,10 @@ impl Powers {
     pub fn times(&self, other: &Powers) -> Result<Powers, MonoFault>
         ensures { MatchResult result (IsProductOf self.now other.now) (IsFaultOf self.now other.now) }
     {
-        if let (Stored::Few(first), Stored::Few(second)) = (&self.stored, &other.stored) {
-            return self.times_by_keys(other, first.as_slice(), second.as_slice());
-        }
-        self.times_of_words(other)
-    }
-
-    // The product, where one list at least is not stored as keys.
-    #[inline(never)]
-    fn times_of_words(&self, other: &Powers) -> Result<Powers, MonoFault>
-        ensures { MatchResult result (IsProductOf self.now other.now) (IsFaultOf self.now other.now) }
-    {
         match (&self.stored, &other.stored) {
+            (Stored::Few(first), Stored::Few(second)) => {
+                self.times_by_keys(other, first.as_slice(), second.as_slice())
+            }
             (Stored::Word(first), Stored::Few(second)) => {
                 let first = first.keys();
                 self.times_by_keys(other, first.as_slice(), second.as_slice())
@@ -237,33 +253,46 @@ impl Powers {
     }
 
     // The product of two lists of powers, whose keys these are.
-    #[inline(always)]
     fn times_by_keys(
         &self,
         other: &Powers,
         first: &[Key],
         second: &[Key],
     ) -> Result<Powers, MonoFault>
+        requires few_first { length first.now ≤ 8 }
+        requires few_second { length second.now ≤ 8 }
         requires first { map power_of first.now ≡ self.now }
         requires second { map power_of second.now ≡ other.now }
         ensures { MatchResult result (IsProductOf self.now other.now) (IsFaultOf self.now other.now) }
     {
-        match product_of_keys(first, second) {
-            KeyProduct::Made(keys) => Ok(Powers {
-                stored: Stored::Few(keys),
-                alloc: self.alloc,
-            }),
-            KeyProduct::TooHigh(var) => Err(MonoFault::Degree { var }),
-            KeyProduct::TooMany => product(self, other),
+        let mut product: ArrayVec<Key, 16> = ArrayVec::new();
+        if let Some(var) = multiply_keys(first, second, &mut product) {
+            return Err(MonoFault::Degree { var });
         }
+        if product.len() > FEW {
+            let powers = listed(self.alloc, product.as_slice())?;
+            return Ok(Powers::of_list(self.alloc, powers));
+        }
+        Ok(Powers::of_keys(self.alloc, same_keys(product.as_slice())))
     }
 
     /// The lexicographic order, in which powers are ordered by their variables, then by their exponents.
+    #[inline(always)]
     pub fn order(&self, other: &Powers) -> Ordering
         ensures { result ≡ monomial_cmp self.now other.now }
     {
+        if let (Stored::Few(first), Stored::Few(second)) = (&self.stored, &other.stored) {
+            return order_of_keys(first.as_slice(), second.as_slice());
+        }
+        self.order_of_any(other)
+    }
+
+    // The lexicographic order, where one list at least is not stored as keys.
+    #[inline(never)]
+    fn order_of_any(&self, other: &Powers) -> Ordering
+        ensures { result ≡ monomial_cmp self.now other.now }
+    {
         match (&self.stored, &other.stored) {
-            (Stored::Few(first), Stored::Few(second)) => first.as_slice().cmp(second.as_slice()),
             (Stored::Word(first), Stored::Word(second)) => match first.order(second) {
                 Some(order) => order,
                 None => self.order_by_power(other),
