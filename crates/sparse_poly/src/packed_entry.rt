@@ -11,6 +11,13 @@ pub struct PackedTerm {
     ghost small: { word < 2 ^ 127 },
 }
 
+impl Default for PackedTerm {
+    /// The term zero.
+    fn default() -> PackedTerm {
+        PackedTerm { word: 0, coeff: 0 }
+    }
+}
+
 /// A sum of contributions to the monomial of a word, with that of their absolute values. A weight above the limit stands for all those.
 #[derive(Clone, Copy)]
 pub struct PackedShare {

@@ -1,5 +1,5 @@
 //! Products of polynomials whose monomials are words.
-ghost use Rattle.std.specs.Prelude.{◌≡◌, ◌<◌, ◌≤◌, ◌+◌, ◌*◌, ◌^◌, List, [], ◌∷◌, ◌++◌, length, take, drop, IfOk, MatchResult};
+ghost use Rattle.std.specs.Prelude.{◌≡◌, ◌<◌, ◌≤◌, ◌+◌, ◌*◌, ◌^◌, List, [], ◌∷◌, ◌++◌, length, take, drop, IfOk, OnOk, MatchResult};
 ghost use Rattle.std.specs.Vec.{vec_len, vec_capacity};
 ghost use Rattle.sparse_poly.specs.Contributions.{contributions, IsPoly, IsResult, IsFault};
 ghost use Rattle.sparse_poly.specs.Polynomials.{products};
@@ -13,6 +13,7 @@ use crate::sources::{FallingShares, Merged, StoredShares, TermRow, joined, share
 use crate::squeezing::trimmed;
 use crate::{PolyFault, Term};
 use monomial::{Layout, Monomial};
+use smallvec::SmallVec;
 use std::alloc::{AllocError, Global};
 use std::cmp::Ordering;
 
@@ -39,17 +40,23 @@ pub fn packed_combination(
     requires p_fits { AllFit layout.now p.now }
     ensures { MatchResult result (λ v. IsResult (contributions l.now q.now a.now p.now) v.items) (IsFault (contributions l.now q.now a.now p.now)) }
 {
-    let ls = packed(alloc, layout, l)?;
-    let qs = packed(alloc, layout, q)?;
-    let as_ = packed(alloc, layout, a)?;
-    let ps = packed(alloc, layout, p)?;
-    if ls.len() <= 2 && as_.len() <= 2 {
-        let first = pair(&ls, &qs, false);
-        let second = pair(&as_, &ps, true);
+    let mut packed_l = PackedTerms::new(alloc);
+    let mut packed_q = PackedTerms::new(alloc);
+    let mut packed_a = PackedTerms::new(alloc);
+    let mut packed_p = PackedTerms::new(alloc);
+    pack(l, layout, &mut packed_l)?;
+    pack(q, layout, &mut packed_q)?;
+    pack(a, layout, &mut packed_a)?;
+    pack(p, layout, &mut packed_p)?;
+    let (l, q) = (packed_l.as_slice(), packed_q.as_slice());
+    let (a, p) = (packed_a.as_slice(), packed_p.as_slice());
+    if l.len() <= 2 && a.len() <= 2 {
+        let first = pair(l, q, false);
+        let second = pair(a, p, true);
         return squeeze(alloc, layout, Merged { first, second });
     }
-    let first = stored(alloc, &ls, &qs, false)?;
-    let second = stored(alloc, &as_, &ps, true)?;
+    let first = stored(alloc, l, q, false)?;
+    let second = stored(alloc, a, p, true)?;
     squeeze(alloc, layout, Merged { first, second })
 }
 
@@ -67,14 +74,17 @@ pub fn packed_multiplication(
     requires q_fits { AllFit layout.now q.now }
     ensures { MatchResult result (λ v. IsResult (products l.now q.now) v.items) (IsFault (products l.now q.now)) }
 {
-    let ts = packed(alloc, layout, l)?;
-    let us = packed(alloc, layout, q)?;
-    if ts.len() <= 2 {
-        return squeeze(alloc, layout, pair(&ts, &us, false));
+    let mut packed_l = PackedTerms::new(alloc);
+    let mut packed_q = PackedTerms::new(alloc);
+    pack(l, layout, &mut packed_l)?;
+    pack(q, layout, &mut packed_q)?;
+    let (l, q) = (packed_l.as_slice(), packed_q.as_slice());
+    if l.len() <= 2 {
+        return squeeze(alloc, layout, pair(l, q, false));
     }
-    let half = ts.len() / 2;
-    let first = stored(alloc, &ts[..half], &us, false)?;
-    let second = stored(alloc, &ts[half..], &us, false)?;
+    let half = l.len() / 2;
+    let first = stored(alloc, &l[..half], q, false)?;
+    let second = stored(alloc, &l[half..], q, false)?;
     squeeze(alloc, layout, Merged { first, second })
 }
 
@@ -114,18 +124,22 @@ fn row_at<'a>(ts: &[PackedTerm], place: usize, us: &'a [PackedTerm], minus: bool
     if place < ts.len() {
         TermRow::new(ts[place], us, minus)
     } else {
-        TermRow::new(PackedTerm { word: 0, coeff: 0 }, &[], minus)
+        TermRow::new(PackedTerm::default(), &[], minus)
     }
 }
 
-// Terms with their words.
-fn packed(alloc: Global, layout: &Layout, terms: &[Term]) -> Result<Vec<PackedTerm>, AllocError>
+// Terms with their words. Where they are few they lie in the value itself, which is therefore not moved but filled.
+type PackedTerms = SmallVec<PackedTerm, 4>;
+
+// Fills an empty list with the terms and their words.
+fn pack(terms: &[Term], layout: &Layout, packed: &mut PackedTerms) -> Result<(), AllocError>
     requires layout { IsLayout layout.now }
     requires poly { IsPoly terms.now }
     requires fits { AllFit layout.now terms.now }
-    ensures { IfOk result (λ v. IsPackedList layout.now terms.now v.items) }
+    requires empty { packed.old.items ≡ [] }
+    ensures { OnOk result (IsPackedList layout.now terms.now packed.new.items) }
 {
-    let mut packed = Vec::with_capacity(alloc, terms.len())?;
+    packed.reserve_exact(terms.len())?;
     for term in terms {
         let Some(word) = term.monomial.word_in(layout) else {
             unreachable!()
@@ -135,7 +149,7 @@ fn packed(alloc: Global, layout: &Layout, terms: &[Term]) -> Result<Vec<PackedTe
             coeff: term.coeff,
         });
     }
-    Ok(packed)
+    Ok(())
 }
 
 // The contributions to a product, by halves of the first factor.
