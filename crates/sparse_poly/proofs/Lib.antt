@@ -21,4 +21,3 @@ pub mod Places
 pub mod Packings
 pub mod PackedTerms
 pub mod PackedSources
-pub mod PackedPairs

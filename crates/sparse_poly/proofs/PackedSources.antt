@@ -1,9 +1,10 @@
 -- Packed shares that are read from the greatest word down: merges that are made as they are read, and what is read in a layout.
 use Rattle.std.specs.Prelude.{◌≡◌, ◌<◌, ◌≤◌, ℕ, ◌+◌, ◌*◌, ◌^◌, ℤ, ◌+ℤ◌, Bool, List, [], ◌∷◌, ◌++◌, length, drop, slice_index_or, refl}
 use mathlib.Core.Logic.{◌⊎◌, inl, inr}
-use Rattle.std.proofs.Common.{arith, sym, ◌∙◌, ap, subst, length-append}
+use Rattle.std.proofs.Common.{arith, sym, ◌∙◌, ap, subst, length-append, append_assoc}
 use Rattle.std.proofs.lemmas.Int.{ints}
 use Rattle.std.proofs.lemmas.Bool.{cases_lt, cases_order}
+use Rattle.std.specs.List.{AllByRecursion}
 use Rattle.std.specs.declared.cmp.Ordering.TheVariants.{Less}
 use Rattle.std.specs.declared.option.Option.{Option}
 use Rattle.std.specs.declared.option.Option.TheVariants.{None, Some}
@@ -15,7 +16,7 @@ use Rattle.sparse_poly.specs.declared.packed_entry.PackedTerm.{PackedTerm}
 use Rattle.sparse_poly.specs.declared.packed_entry.PackedShare.{PackedShare}
 use Rattle.sparse_poly.specs.Standing.{ssum, sweight, Agree, AllBelow}
 use Rattle.sparse_poly.specs.Packed.{Reading, share_read, shares_read, share_words, row_share, row_shares, AllUnder, IsSameInFewer, IsGreatestWord, IsPackedTaken, IsPackedNext}
-use Rattle.sparse_poly.proofs.Descending.{all_both}
+use Rattle.sparse_poly.proofs.Descending.{all_map, all_more}
 use Rattle.sparse_poly.proofs.Packings.{drop_at, weight_of, sum_of, under_more, joined_words}
 use Rattle.sparse_poly.proofs.Places.{drop_end}
 use Rattle.sparse_poly.proofs.Squeezes.{IsTakenFrom}
@@ -248,3 +249,33 @@ IsTakenFrom-read vs old new s y a h =
   where
     never : s.word < s.word → ⊥
     never l = omega arith
+
+-- shares that are made into a list: done went, and us are left
+pub record Collecting (xs us done : List PackedShare) : Type 0 where
+  pub same : IsSameInFewer (done ++ us) xs
+  pub falling : AreFalling (share_words done)
+  pub above : AllByRecursion (λ (o : PackedShare). AllUnder o.word (share_words us)) done
+
+pub Collecting-start : (xs : List PackedShare) → Collecting xs xs []
+Collecting-start xs = record { same = same_itself xs; falling = tt; above = tt }
+
+falling_more : (done : List PackedShare) (s : PackedShare) → AreFalling (share_words done) → AllByRecursion (λ (o : PackedShare). s.word < o.word) done → AreFalling (share_words (done ++ s ∷ []))
+falling_more [] s f a = (tt, tt)
+falling_more (o ∷ done) s f a = (under_both o.word done (s ∷ []) f.0 (a.0, tt), falling_more done s f.1 a.1)
+
+pub Collecting-more : (xs old new done : List PackedShare) (s : PackedShare) → Collecting xs old done → IsPackedTaken old new s → Collecting xs new (done ++ s ∷ [])
+Collecting-more xs old new done s g h = record {
+  same = subst (λ ss. IsSameInFewer ss xs) (sym (append_assoc done (s ∷ []) new)) (same_through _ _ _ (same_both done (s ∷ new) done old (same_itself done) h.same) g.same);
+  falling = falling_more done s g.falling (all_map (λ (o : PackedShare). AllUnder o.word (share_words old)) (λ (o : PackedShare). s.word < o.word) done (λ o u. (h.same.under o.word u).0) g.above);
+  above = all_more (λ (o : PackedShare). AllUnder o.word (share_words new)) done s (all_map (λ (o : PackedShare). AllUnder o.word (share_words old)) (λ (o : PackedShare). AllUnder o.word (share_words new)) done (λ o u. (h.same.under o.word u).1) g.above) h.below;
+}
+
+append_end : (xs : List PackedShare) → xs ++ [] ≡ xs
+append_end [] = refl
+append_end (x ∷ xs) = ap (λ r. x ∷ r) (append_end xs)
+
+pub Collecting-same : (xs us done : List PackedShare) → Collecting xs us done → us ≡ [] → IsSameInFewer done xs
+Collecting-same xs us done g e = subst (λ ss. IsSameInFewer ss xs) (ap (λ vs. done ++ vs) e ∙ append_end done) g.same
+
+pub Collecting-falls : (xs us done : List PackedShare) → Collecting xs us done → AreFalling (share_words done)
+Collecting-falls xs us done g = g.falling

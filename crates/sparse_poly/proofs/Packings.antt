@@ -15,7 +15,7 @@ use Rattle.sparse_poly.specs.declared.packed_entry.PackedShare.{PackedShare}
 use Rattle.sparse_poly.specs.Contributions.{signed, kept, signed_row, signed_products}
 use Rattle.sparse_poly.specs.Standing.{ssum, sweight, Agree, Stands}
 use Rattle.monomial.specs.Layouts.{AreFalling}
-use Rattle.sparse_poly.specs.Packed.{Reading, term_read, terms_read, share_read, shares_read, term_words, share_words, AreProducts, AllUnder, AllHalves, raised, row_share, row_shares, IsPackedRow, IsRowAdded, IsPackedProduct, IsPackedMerge}
+use Rattle.sparse_poly.specs.Packed.{Reading, term_read, terms_read, share_read, shares_read, term_words, share_words, AreProducts, AllUnder, AllHalves, raised, row_share, row_shares, IsPackedRow, IsPackedProduct}
 use Rattle.sparse_poly.proofs.Evaluation.{zero_plus}
 use Rattle.sparse_poly.proofs.Adding.{signed_products-append, signed_products-one}
 use Rattle.sparse_poly.proofs.Standings.{agree_kept, agree_plus, agree_through, same_agrees, Stands-both, Stands-append, no_products}
@@ -25,49 +25,11 @@ use Rattle.sparse_poly.proofs.Places.{drop_one, drop_end}
 pub drop_at : {X : Type 0} → (xs : List X) (k : ℕ) (x : X) → k < length xs → x ≡ slice_index_or xs k x → drop k xs ≡ x ∷ drop (k + 1) xs
 drop_at xs k x h e = drop_one xs k x h ∙ ap (λ y. y ∷ drop (k + 1) xs) (sym e)
 
--- what two reads of one place give
-pub same_read : {X : Type 0} → (xs : List X) (k : ℕ) (x y : X) → k < length xs → x ≡ slice_index_or xs k x → y ≡ slice_index_or xs k y → x ≡ y
-same_read [] k x y h e f = absurd (omega arith)
-same_read (z ∷ zs) zero x y h e f = e ∙ sym f
-same_read (z ∷ zs) (suc k) x y h e f = same_read zs k x y (omega arith) e f
-
 -- a read of a place gives the same for each share that stands for none
 pub read_any : {X : Type 0} → (xs : List X) (k : ℕ) (d : X) → k < length xs → slice_index_or xs k d ≡ slice_index_or xs k (slice_index_or xs k d)
 read_any [] k d h = absurd (omega arith)
 read_any (z ∷ zs) zero d h = refl
 read_any (z ∷ zs) (suc k) d h = read_any zs k d (omega arith)
-
--- merges
-merge_none : (ys : List PackedShare) → IsPackedMerge [] ys ys
-merge_none ys = record {
-  both = λ r m. inl (plain (sweight (shares_read r ys) m), sym (zero_plus _));
-  falling = λ f g. g;
-  under = λ n a b. b;
-}
-  where
-    plain : (a : ℕ) → a ≡ 0 + a
-    plain a = omega arith
-
-merge_only : (xs : List PackedShare) → IsPackedMerge xs [] xs
-merge_only xs = record {
-  both = λ r m. inl (plain (sweight (shares_read r xs) m), plain_sum (ssum (shares_read r xs) m));
-  falling = λ f g. f;
-  under = λ n a b. a;
-}
-  where
-    plain : (a : ℕ) → a ≡ a + 0
-    plain a = omega arith
-
-    plain_sum : (a : ℤ) → a ≡ a +ℤ pos 0
-    plain_sum a = omega (arith, ints)
-
-pub append_end : (xs : List PackedShare) → xs ++ [] ≡ xs
-append_end [] = refl
-append_end (x ∷ xs) = ap (λ r. x ∷ r) (append_end xs)
-
-pub merge_rest : (xs ys : List PackedShare) → (xs ≡ []) ⊎ (ys ≡ []) → IsPackedMerge xs ys (xs ++ ys)
-merge_rest xs ys (inl e) = subst (λ us. IsPackedMerge us ys (us ++ ys)) (sym e) (merge_none ys)
-merge_rest xs ys (inr e) = subst (λ us. IsPackedMerge xs us (xs ++ us)) (sym e) (subst (IsPackedMerge xs []) (sym (append_end xs)) (merge_only xs))
 
 pub under_more : (n k : ℕ) (ws : List ℕ) → n ≤ k → AllUnder n ws → AllUnder k ws
 under_more n k ws l h = all_map (λ w. w < n) (λ w. w < k) ws (λ w g. omega arith) h
@@ -79,34 +41,6 @@ weight_of r m s = if is_eq (monomial_cmp m (r s.word)) then s.weight else 0
 abbrev pub sum_of : Reading → List (ℕ × ℕ) → PackedShare → ℤ
 sum_of r m s = if is_eq (monomial_cmp m (r s.word)) then s.sum else pos 0
 
-pub merge_first : (x y : PackedShare) (xs ys zs : List PackedShare) → y.word < x.word → IsPackedMerge xs (y ∷ ys) zs → IsPackedMerge (x ∷ xs) (y ∷ ys) (x ∷ zs)
-merge_first x y xs ys zs l g = record {
-  both = λ r m. agree_through _ _ _ _ _ _ (agree_plus (weight_of r m x) (weight_of r m x) _ _ (sum_of r m x) (sum_of r m x) _ _ (inl (refl, refl)) (g.both r m))
-      (same_agrees _ _ _ _ (assoc (weight_of r m x) _ _) (assoc_sum (sum_of r m x) (ssum (shares_read r xs) m) (ssum (shares_read r (y ∷ ys)) m)));
-  falling = λ f h. (g.under x.word f.0 (l, under_more y.word x.word (share_words ys) (omega arith) h.0), g.falling f.1 h);
-  under = λ n a b. (a.0, g.under n a.1 b);
-}
-  where
-    assoc : (a b c : ℕ) → a + (b + c) ≡ (a + b) + c
-    assoc a b c = omega arith
-
-    assoc_sum : (a b c : ℤ) → a +ℤ (b +ℤ c) ≡ (a +ℤ b) +ℤ c
-    assoc_sum a b c = omega (arith, ints)
-
-pub merge_second : (x y : PackedShare) (xs ys zs : List PackedShare) → x.word < y.word → IsPackedMerge (x ∷ xs) ys zs → IsPackedMerge (x ∷ xs) (y ∷ ys) (y ∷ zs)
-merge_second x y xs ys zs l g = record {
-  both = λ r m. agree_through _ _ _ _ _ _ (agree_plus (weight_of r m y) (weight_of r m y) _ _ (sum_of r m y) (sum_of r m y) _ _ (inl (refl, refl)) (g.both r m))
-      (same_agrees _ _ _ _ (assoc (weight_of r m y) (sweight (shares_read r (x ∷ xs)) m) (sweight (shares_read r ys) m)) (assoc_sum (sum_of r m y) (ssum (shares_read r (x ∷ xs)) m) (ssum (shares_read r ys) m)));
-  falling = λ f h. (g.under y.word (l, under_more x.word y.word (share_words xs) (omega arith) f.0) h.0, g.falling f h.1);
-  under = λ n a b. (b.0, g.under n a b.1);
-}
-  where
-    assoc : (a b c : ℕ) → a + (b + c) ≡ b + (a + c)
-    assoc a b c = omega arith
-
-    assoc_sum : (a b c : ℤ) → a +ℤ (b +ℤ c) ≡ b +ℤ (a +ℤ c)
-    assoc_sum a b c = omega (arith, ints)
-
 -- two shares of one word as one
 joined_at : (b : Bool) (z x y : PackedShare) → Agree z.weight z.sum (x.weight + y.weight) (x.sum +ℤ y.sum) → Agree (if b then z.weight else 0) (if b then z.sum else pos 0) ((if b then x.weight else 0) + (if b then y.weight else 0)) ((if b then x.sum else pos 0) +ℤ (if b then y.sum else pos 0))
 joined_at true z x y a = a
@@ -117,70 +51,6 @@ joined_words x y z e f a r m =
     subst (λ w. Agree (weight_of r m z) (sum_of r m z) ((if is_eq (monomial_cmp m (r w)) then x.weight else 0) + weight_of r m y) ((if is_eq (monomial_cmp m (r w)) then x.sum else pos 0) +ℤ sum_of r m y)) f
     (subst (λ w. Agree (weight_of r m z) (sum_of r m z) ((if is_eq (monomial_cmp m (r z.word)) then x.weight else 0) + (if is_eq (monomial_cmp m (r w)) then y.weight else 0)) ((if is_eq (monomial_cmp m (r z.word)) then x.sum else pos 0) +ℤ (if is_eq (monomial_cmp m (r w)) then y.sum else pos 0))) (f ∙ e)
     (joined_at (is_eq (monomial_cmp m (r z.word))) z x y a))
-
-pub merge_both : (x y z : PackedShare) (xs ys zs : List PackedShare) → x.word ≡ y.word → z.word ≡ x.word → Agree z.weight z.sum (x.weight + y.weight) (x.sum +ℤ y.sum) → IsPackedMerge xs ys zs → IsPackedMerge (x ∷ xs) (y ∷ ys) (z ∷ zs)
-merge_both x y z xs ys zs e f a g = record {
-  both = λ r m. agree_through _ _ _ _ _ _ (agree_plus _ _ _ _ _ _ _ _ (joined_words x y z e f a r m) (g.both r m))
-      (same_agrees _ _ _ _ (pairs (weight_of r m x) (weight_of r m y) _ _) (pairs_sum (sum_of r m x) (sum_of r m y) (ssum (shares_read r xs) m) (ssum (shares_read r ys) m)));
-  falling = λ h k. (g.under z.word (subst (λ n. AllUnder n (share_words xs)) (sym f) h.0) (subst (λ n. AllUnder n (share_words ys)) (sym (f ∙ e)) k.0), g.falling h.1 k.1);
-  under = λ n h k. (subst (λ w. w < n) (sym f) h.0, g.under n h.1 k.1);
-}
-  where
-    pairs : (a b c d : ℕ) → (a + b) + (c + d) ≡ (a + c) + (b + d)
-    pairs a b c d = omega arith
-
-    pairs_sum : (a b c d : ℤ) → (a +ℤ b) +ℤ (c +ℤ d) ≡ (a +ℤ c) +ℤ (b +ℤ d)
-    pairs_sum a b c d = omega (arith, ints)
-
--- how far a merge has come: with any merge of what is left it makes one of all
-pub record PackedMerging (xs ys : List PackedShare) (i j : ℕ) (out : List PackedShare) : Type 0 where
-  pub first_in : i ≤ length xs
-  pub second_in : j ≤ length ys
-  pub merged : (zs : List PackedShare) → IsPackedMerge (drop i xs) (drop j ys) zs → IsPackedMerge xs ys (out ++ zs)
-
-pub PackedMerging-start : (xs ys : List PackedShare) → PackedMerging xs ys 0 0 []
-PackedMerging-start xs ys = record { first_in = omega arith; second_in = omega arith; merged = λ zs h. h }
-
-pub PackedMerging-first : (xs ys out : List PackedShare) (i j : ℕ) (x y : PackedShare) → i < length xs → j < length ys → x ≡ slice_index_or xs i x → y ≡ slice_index_or ys j y → y.word < x.word → PackedMerging xs ys i j out → PackedMerging xs ys (i + 1) j (out ++ x ∷ [])
-PackedMerging-first xs ys out i j x y h k e f l g =
-    let first = drop_at xs i x h e in
-    let second = drop_at ys j y k f in
-    record {
-      first_in = omega arith;
-      second_in = g.second_in;
-      merged = λ zs m. subst (IsPackedMerge xs ys) (sym (append_assoc out (x ∷ []) zs))
-          (g.merged (x ∷ zs) (subst (λ us. IsPackedMerge us (drop j ys) (x ∷ zs)) (sym first) (subst (λ us. IsPackedMerge (x ∷ drop (i + 1) xs) us (x ∷ zs)) (sym second) (merge_first x y _ _ zs l (subst (λ us. IsPackedMerge (drop (i + 1) xs) us zs) second m)))));
-    }
-
-pub PackedMerging-second : (xs ys out : List PackedShare) (i j : ℕ) (x y : PackedShare) → i < length xs → j < length ys → x ≡ slice_index_or xs i x → y ≡ slice_index_or ys j y → x.word < y.word → PackedMerging xs ys i j out → PackedMerging xs ys i (j + 1) (out ++ y ∷ [])
-PackedMerging-second xs ys out i j x y h k e f l g =
-    let first = drop_at xs i x h e in
-    let second = drop_at ys j y k f in
-    record {
-      first_in = g.first_in;
-      second_in = omega arith;
-      merged = λ zs m. subst (IsPackedMerge xs ys) (sym (append_assoc out (y ∷ []) zs))
-          (g.merged (y ∷ zs) (subst (λ us. IsPackedMerge us (drop j ys) (y ∷ zs)) (sym first) (subst (λ us. IsPackedMerge (x ∷ drop (i + 1) xs) us (y ∷ zs)) (sym second) (merge_second x y _ _ zs l (subst (λ us. IsPackedMerge us (drop (j + 1) ys) zs) first m)))));
-    }
-
-pub PackedMerging-both : (xs ys out : List PackedShare) (i j : ℕ) (x y z : PackedShare) → i < length xs → j < length ys → x ≡ slice_index_or xs i x → y ≡ slice_index_or ys j y → x.word ≡ y.word → z.word ≡ x.word → Agree z.weight z.sum (x.weight + y.weight) (x.sum +ℤ y.sum) → PackedMerging xs ys i j out → PackedMerging xs ys (i + 1) (j + 1) (out ++ z ∷ [])
-PackedMerging-both xs ys out i j x y z h k e f s w a g =
-    let first = drop_at xs i x h e in
-    let second = drop_at ys j y k f in
-    record {
-      first_in = omega arith;
-      second_in = omega arith;
-      merged = λ zs m. subst (IsPackedMerge xs ys) (sym (append_assoc out (z ∷ []) zs))
-          (g.merged (z ∷ zs) (subst (λ us. IsPackedMerge us (drop j ys) (z ∷ zs)) (sym first) (subst (λ us. IsPackedMerge (x ∷ drop (i + 1) xs) us (z ∷ zs)) (sym second) (merge_both x y z _ _ zs s w a m))));
-    }
-
-pub PackedMerging-end : (xs ys out : List PackedShare) (i j : ℕ) → (length xs ≤ i) ⊎ (length ys ≤ j) → PackedMerging xs ys i j out → IsPackedMerge xs ys ((out ++ drop i xs) ++ drop j ys)
-PackedMerging-end xs ys out i j h g =
-    subst (IsPackedMerge xs ys) (sym (append_assoc out (drop i xs) (drop j ys))) (g.merged (drop i xs ++ drop j ys) (merge_rest (drop i xs) (drop j ys) (each h)))
-  where
-    each : (length xs ≤ i) ⊎ (length ys ≤ j) → (drop i xs ≡ []) ⊎ (drop j ys ≡ [])
-    each (inl l) = inl (drop_end xs i l)
-    each (inr l) = inr (drop_end ys j l)
 
 -- one contribution before others
 Stands-cons : (s : Share) (t : Term) (ss : List Share) (cs : List Term) → s.monomial ≡ t.monomial → Agree s.weight s.sum (unsigned_abs t.coeff) t.coeff → Stands ss cs → Stands (s ∷ ss) (t ∷ cs)
@@ -233,22 +103,6 @@ row_shares-row : (minus : Bool) (t : PackedTerm) (us : List PackedTerm) → IsPa
 row_shares-row minus t [] = row_none minus t
 row_shares-row minus t (u ∷ us) = row_more minus t u us (row_share minus t u) (row_shares minus t us) refl (agree_kept (signed minus (t.coeff *ℤ u.coeff))) (row_shares-row minus t us)
 
--- how far a row has come: with any row of what is left it makes one of all
-pub RowAdding : Bool → PackedTerm → List PackedTerm → List PackedShare → ℕ → List PackedShare → Type 0
-RowAdding minus t us old k out = (zs : List PackedShare) → IsPackedRow minus t (drop k us) zs → IsRowAdded minus t us old (out ++ zs)
-
-pub RowAdding-start : (minus : Bool) (t : PackedTerm) (us : List PackedTerm) (old : List PackedShare) → RowAdding minus t us old 0 old
-unfolding RowAdding
-RowAdding-start minus t us old = λ zs h. record { row = zs; is_row = h; items = refl }
-
-pub RowAdding-more : (minus : Bool) (t u : PackedTerm) (us : List PackedTerm) (old : List PackedShare) (k : ℕ) (s : PackedShare) (out : List PackedShare) → k < length us → u ≡ slice_index_or us k u → s.word ≡ t.word + u.word → Agree s.weight s.sum (unsigned_abs (signed minus (t.coeff *ℤ u.coeff))) (signed minus (t.coeff *ℤ u.coeff)) → RowAdding minus t us old k out → RowAdding minus t us old (k + 1) (out ++ s ∷ [])
-unfolding RowAdding
-RowAdding-more minus t u us old k s out h e w a g = λ zs m. subst (IsRowAdded minus t us old) (sym (append_assoc out (s ∷ []) zs)) (g (s ∷ zs) (subst (λ vs. IsPackedRow minus t vs (s ∷ zs)) (sym (drop_at us k u h e)) (row_more minus t u _ s zs w a m)))
-
-pub RowAdding-end : (minus : Bool) (t : PackedTerm) (us : List PackedTerm) (old : List PackedShare) (k : ℕ) (out : List PackedShare) → length us ≤ k → RowAdding minus t us old k out → IsRowAdded minus t us old out
-unfolding RowAdding
-RowAdding-end minus t us old k out h g = subst (IsRowAdded minus t us old) (append_end out) (g [] (subst (λ vs. IsPackedRow minus t vs []) (sym (drop_end us k h)) (row_none minus t)))
-
 -- words with one word added to each fall as they do
 raised_under : (w n : ℕ) (vs : List ℕ) → AllUnder n vs → AllUnder (w + n) (raised w vs)
 raised_under w n [] h = tt
@@ -281,9 +135,6 @@ alone [] t e f = absurd (omega arith)
 alone (x ∷ []) t e f = ap (λ y. y ∷ []) (sym f)
 alone (x ∷ y ∷ xs) t e f = absurd (omega arith)
 
-pub product_row : (minus : Bool) (t : PackedTerm) (us : List PackedTerm) (ss : List PackedShare) → IsRowAdded minus t us [] ss → IsPackedProduct minus (t ∷ []) us ss
-product_row minus t us ss g = subst (IsPackedProduct minus (t ∷ []) us) (sym g.items) (product_one minus t us g.row g.is_row)
-
 pub terms_read-append : (r : Reading) (xs ys : List PackedTerm) → terms_read r (xs ++ ys) ≡ terms_read r xs ++ terms_read r ys
 terms_read-append r [] ys = refl
 terms_read-append r (x ∷ xs) ys = ap (λ zs. term_read r x ∷ zs) (terms_read-append r xs ys)
@@ -297,12 +148,3 @@ term_halves ts k = sym (ap (λ zs. take k ts ++ zs) (between_to_end ts k (length
 
 pub append_products : (minus : Bool) (r : Reading) (ts us xs ys : List PackedTerm) → ts ≡ xs ++ ys → signed_products minus (terms_read r ts) (terms_read r us) ≡ signed_products minus (terms_read r xs) (terms_read r us) ++ signed_products minus (terms_read r ys) (terms_read r us)
 append_products minus r ts us xs ys e = ap (λ ws. signed_products minus ws (terms_read r us)) (ap (terms_read r) e ∙ terms_read-append r xs ys) ∙ signed_products-append minus (terms_read r xs) (terms_read r ys) (terms_read r us)
-
-pub product_halves : (minus : Bool) (ts us xs ys : List PackedTerm) (fs bs zs : List PackedShare) → ts ≡ xs ++ ys → IsPackedProduct minus xs us fs → IsPackedProduct minus ys us bs → IsPackedMerge fs bs zs → IsPackedProduct minus ts us zs
-product_halves minus ts us xs ys fs bs zs e f b m = subst (λ ws. IsPackedProduct minus ws us zs) (sym e) (record {
-  sums = λ r p. subst (Stands (shares_read r zs)) (sym (append_products minus r (xs ++ ys) us xs ys refl))
-      (Stands-both _ _ _ _ _ (m.both r) (f.sums r (all_front _ xs ys p)) (b.sums r (all_back _ xs ys p)));
-  falling = λ h. m.falling (f.falling h) (b.falling h);
-  under = λ n a h. let both : AllHalves n (term_words xs ++ term_words ys) = subst (AllHalves n) (term_words-append xs ys) a in
-      m.under n (f.under n (all_front _ (term_words xs) (term_words ys) both) h) (b.under n (all_back _ (term_words xs) (term_words ys) both) h);
-})

@@ -83,23 +83,11 @@ pub record IsPackedRow (minus : Bool) (t : PackedTerm) (us : List PackedTerm) (s
   pub sums : (r : Reading) → AreProducts r (t ∷ []) us → Stands (shares_read r ss) (signed_row minus (term_read r t) (terms_read r us))
   pub words : share_words ss ≡ raised t.word (term_words us)
 
--- the contributions of one term were added to shares
-pub record IsRowAdded (minus : Bool) (t : PackedTerm) (us : List PackedTerm) (old new : List PackedShare) : Type 0 where
-  pub row : List PackedShare
-  pub is_row : IsPackedRow minus t us row
-  pub items : new ≡ old ++ row
-
 -- the contributions to a product, falling
 pub record IsPackedProduct (minus : Bool) (ts us : List PackedTerm) (ss : List PackedShare) : Type 0 where
   pub sums : (r : Reading) → AreProducts r ts us → Stands (shares_read r ss) (signed_products minus (terms_read r ts) (terms_read r us))
   pub falling : AreFalling (term_words us) → AreFalling (share_words ss)
   pub under : (n : ℕ) → AllHalves n (term_words ts) → AllHalves n (term_words us) → AllUnder n (share_words ss)
-
--- falling shares that add up to the sums of two falling lists
-pub record IsPackedMerge (xs ys zs : List PackedShare) : Type 0 where
-  pub both : (r : Reading) → StandsForBoth (shares_read r zs) (shares_read r xs) (shares_read r ys)
-  pub falling : AreFalling (share_words xs) → AreFalling (share_words ys) → AreFalling (share_words zs)
-  pub under : (n : ℕ) → AllUnder n (share_words xs) → AllUnder n (share_words ys) → AllUnder n (share_words zs)
 
 -- shares that stand for the contributions to a product
 pub record AreProductShares (minus : Bool) (ts us : List PackedTerm) (ss : List PackedShare) : Type 0 where

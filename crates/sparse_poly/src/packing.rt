@@ -1,21 +1,19 @@
 //! Products of polynomials whose monomials are words.
 ghost use Rattle.std.specs.Prelude.{◌≡◌, ◌<◌, ◌≤◌, ◌+◌, ◌*◌, ◌^◌, List, [], ◌∷◌, ◌++◌, length, take, drop, IfOk, OnOk, MatchResult};
-ghost use Rattle.std.specs.Vec.{vec_len, vec_capacity};
 ghost use Rattle.sparse_poly.specs.Contributions.{contributions, IsPoly, IsResult, IsFault};
 ghost use Rattle.sparse_poly.specs.Polynomials.{products};
 ghost use Rattle.sparse_poly.specs.Standing.{IsLightSum, IsHeavyFault};
 ghost use Rattle.sparse_poly.specs.Packing.{AllFit};
 ghost use Rattle.monomial.specs.Layouts.{monomial_of, AreFalling, IsLayout};
-ghost use Rattle.sparse_poly.specs.Packed.{shares_read, term_words, share_words, IsPackedList, AllUnder, AreProductShares, IsRowAdded, IsPackedProduct, IsPackedMerge};
+ghost use Rattle.sparse_poly.specs.Packed.{shares_read, term_words, share_words, IsPackedList, AllUnder, AreProductShares, IsSameInFewer};
 
-use crate::packed_entry::{PackedShare, PackedTerm};
-use crate::sources::{FallingShares, Merged, StoredShares, TermRow, joined, share_of};
+use crate::packed_entry::PackedTerm;
+use crate::sources::{FallingShares, Merged, StoredShares, TermRow};
 use crate::squeezing::trimmed;
 use crate::{PolyFault, Term};
 use monomial::{Layout, Monomial};
 use smallvec::SmallVec;
 use std::alloc::{AllocError, Global};
-use std::cmp::Ordering;
 
 // The contributions of two terms, made as they are read.
 type Pair<'a> = Merged<TermRow<'a>, TermRow<'a>>;
@@ -101,20 +99,6 @@ fn pair<'a>(ts: &[PackedTerm], us: &'a [PackedTerm], minus: bool) -> Pair<'a>
     }
 }
 
-// The contributions to a product, stored.
-fn stored(
-    alloc: Global,
-    ts: &[PackedTerm],
-    us: &[PackedTerm],
-    minus: bool,
-) -> Result<StoredShares, AllocError>
-    requires { AreFalling (term_words us.now) }
-    ensures sums { IfOk result (λ v. AreProductShares minus ts.now us.now (⟦<StoredShares as FallingShares>⟧.left v)) }
-    ensures falls { IfOk result (⟦<StoredShares as FallingShares>⟧.falls) }
-{
-    Ok(StoredShares::new(part(alloc, ts, us, minus)?))
-}
-
 // The contributions of the term at a place, if there is one.
 fn row_at<'a>(ts: &[PackedTerm], place: usize, us: &'a [PackedTerm], minus: bool) -> TermRow<'a>
     requires { AreFalling (term_words us.now) }
@@ -152,127 +136,38 @@ fn pack(terms: &[Term], layout: &Layout, packed: &mut PackedTerms) -> Result<(),
     Ok(())
 }
 
-// The contributions to a product, by halves of the first factor.
-fn part(
+// The contributions to a product, stored: by halves of the first factor.
+fn stored(
     alloc: Global,
     ts: &[PackedTerm],
     us: &[PackedTerm],
     minus: bool,
-) -> Result<Vec<PackedShare>, AllocError>
-    ensures { IfOk result (λ v. IsPackedProduct minus ts.now us.now v.items) }
+) -> Result<StoredShares, AllocError>
+    requires { AreFalling (term_words us.now) }
+    ensures sums { IfOk result (λ v. AreProductShares minus ts.now us.now (⟦<StoredShares as FallingShares>⟧.left v)) }
+    ensures falls { IfOk result (⟦<StoredShares as FallingShares>⟧.falls) }
 {
-    let n = ts.len();
-    if n == 0 {
-        return Ok(Vec::new(alloc));
+    if ts.len() <= 2 {
+        return collected(alloc, pair(ts, us, minus));
     }
-    if n == 1 {
-        return row_of(alloc, ts[0], us, minus);
-    }
-    if n == 2 {
-        return pair_of(alloc, ts[0], ts[1], us, minus);
-    }
-    let first = part(alloc, &ts[..n / 2], us, minus)?;
-    let second = part(alloc, &ts[n / 2..], us, minus)?;
-    merge(alloc, &first, &second)
+    let half = ts.len() / 2;
+    let first = stored(alloc, &ts[..half], us, minus)?;
+    let second = stored(alloc, &ts[half..], us, minus)?;
+    collected(alloc, Merged { first, second })
 }
 
-// The contributions of one term.
-fn row_of(
-    alloc: Global,
-    t: PackedTerm,
-    us: &[PackedTerm],
-    minus: bool,
-) -> Result<Vec<PackedShare>, AllocError>
-    ensures { IfOk result (λ v. IsPackedProduct minus (t ∷ []) us.now v.items) }
+// The same shares, stored.
+fn collected<S: FallingShares + Drop>(alloc: Global, shares: S) -> Result<StoredShares, AllocError>
+    requires { S.falls shares }
+    ensures same { IfOk result (λ v. IsSameInFewer (⟦<StoredShares as FallingShares>⟧.left v) (S.left shares)) }
+    ensures falls { IfOk result (⟦<StoredShares as FallingShares>⟧.falls) }
 {
-    let mut shares = Vec::with_capacity(alloc, us.len())?;
-    add_row(&mut shares, t, us, minus);
-    Ok(shares)
-}
-
-// The contributions of two terms, merged as they are made.
-fn pair_of(
-    alloc: Global,
-    t: PackedTerm,
-    s: PackedTerm,
-    us: &[PackedTerm],
-    minus: bool,
-) -> Result<Vec<PackedShare>, AllocError>
-    ensures { IfOk result (λ v. IsPackedProduct minus (t ∷ s ∷ []) us.now v.items) }
-{
-    let mut shares = Vec::with_capacity(alloc, us.len().saturating_add(us.len()))?;
-    let mut i = 0;
-    let mut j = 0;
-    'both: while i < us.len() && j < us.len() {
-        let x = us[i];
-        let y = us[j];
-        let first = t.word + x.word;
-        let second = s.word + y.word;
-        match first.cmp(&second) {
-            Ordering::Less => {
-                shares.push_reserved(share_of(s, y, minus));
-                j += 1;
-            }
-            Ordering::Equal => {
-                shares.push_reserved(joined(share_of(t, x, minus), share_of(s, y, minus)));
-                i += 1;
-                j += 1;
-            }
-            Ordering::Greater => {
-                shares.push_reserved(share_of(t, x, minus));
-                i += 1;
-            }
-        }
+    let mut shares = shares;
+    let mut list = Vec::with_capacity(alloc, shares.count())?;
+    'shares: while let Some(share) = shares.next() {
+        list.push(share)?;
     }
-    add_row(&mut shares, t, &us[i..], minus);
-    add_row(&mut shares, s, &us[j..], minus);
-    Ok(shares)
-}
-
-// Adds the contributions of one term, for which there is room.
-#[inline(always)]
-fn add_row(shares: &mut Vec<PackedShare>, t: PackedTerm, us: &[PackedTerm], minus: bool)
-    requires room { vec_len shares.old + length us.now ≤ vec_capacity shares.old }
-    ensures row { IsRowAdded minus t us.now shares.old.items shares.new.items }
-    ensures length { vec_len shares.new ≡ vec_len shares.old + length us.now }
-    ensures capacity { vec_capacity shares.new ≡ vec_capacity shares.old }
-{
-    for u in us {
-        shares.push_reserved(share_of(t, *u, minus));
-    }
-}
-
-// Two falling lists as one.
-fn merge(
-    alloc: Global,
-    first: &[PackedShare],
-    second: &[PackedShare],
-) -> Result<Vec<PackedShare>, AllocError>
-    ensures { IfOk result (λ v. IsPackedMerge first.now second.now v.items) }
-{
-    let mut shares = Vec::with_capacity(alloc, first.len().saturating_add(second.len()))?;
-    let mut i = 0;
-    let mut j = 0;
-    'both: while i < first.len() && j < second.len() {
-        match first[i].word.cmp(&second[j].word) {
-            Ordering::Less => {
-                shares.push_reserved(second[j]);
-                j += 1;
-            }
-            Ordering::Equal => {
-                shares.push_reserved(joined(first[i], second[j]));
-                i += 1;
-                j += 1;
-            }
-            Ordering::Greater => {
-                shares.push_reserved(first[i]);
-                i += 1;
-            }
-        }
-    }
-    shares.extend_from_slice(&first[i..])?;
-    shares.extend_from_slice(&second[j..])?;
-    Ok(shares)
+    Ok(StoredShares::new(list))
 }
 
 // The sums of shares.

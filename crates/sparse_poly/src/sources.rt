@@ -180,9 +180,9 @@ impl<A: FallingShares, B: FallingShares> FallingShares for Merged<A, B> {
     }
 }
 
-/// The share of one contribution.
+// The share of one contribution.
 #[inline(always)]
-pub fn share_of(t: PackedTerm, u: PackedTerm, minus: bool) -> PackedShare
+fn share_of(t: PackedTerm, u: PackedTerm, minus: bool) -> PackedShare
     ensures { result ≡ row_share minus t u }
 {
     let sum = kept_product(t.coeff, u.coeff, minus);
@@ -193,8 +193,8 @@ pub fn share_of(t: PackedTerm, u: PackedTerm, minus: bool) -> PackedShare
     }
 }
 
-/// Two shares of one word as one.
-pub fn joined(x: PackedShare, y: PackedShare) -> PackedShare
+// Two shares of one word as one.
+fn joined(x: PackedShare, y: PackedShare) -> PackedShare
     ensures word { result.word ≡ x.word }
     ensures sum { Agree result.weight result.sum (x.weight + y.weight) (x.sum +ℤ y.sum) }
 {
