@@ -1,5 +1,5 @@
 //! The merge of two lists of shares that fall by their monomials, with early sums.
-ghost use Rattle.std.specs.Prelude.{◌≡◌, ◌+◌, ◌+ℤ◌, List, [], ◌∷◌, ◌++◌, IfOk, OnOk};
+ghost use Rattle.std.specs.Prelude.{◌≡◌, ◌+◌, ◌+ℤ◌, List, [], ◌∷◌, ◌++◌, IfOk};
 ghost use Rattle.sparse_poly.specs.Standing.{Agree, StandsForBoth, IsNext, IsFront, IsMerged, IsSorted};
 
 use crate::entry::Share;
