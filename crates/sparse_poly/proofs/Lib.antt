@@ -16,7 +16,7 @@ pub mod Strips
 pub mod Powers
 pub mod Units
 pub mod InOrder
-mod Placed
+pub mod RowShares
 pub mod Places
 pub mod Packings
 pub mod PackedTerms

@@ -1,80 +1,30 @@
--- The contributions of one term in order, the contributions that are handed in, and the sum of two polynomials.
-use Rattle.std.specs.Prelude.{◌≡◌, ◌<◌, ℕ, zero, suc, ◌+◌, ℤ, pos, ◌+ℤ◌, ◌*ℤ◌, unsigned_abs, List, [], ◌∷◌, ◌++◌, length, slice_index_or, take, refl}
-use mathlib.Core.Logic.{inl, inr}
+-- The contributions that are handed in, and the sum of two polynomials.
+use Rattle.std.specs.Prelude.{◌≡◌, ◌<◌, ℕ, zero, suc, ◌+◌, ℤ, pos, ◌+ℤ◌, ◌*ℤ◌, unsigned_abs, List, [], ◌∷◌, ◌++◌, length, slice_index_or, refl}
+use mathlib.Core.Logic.{inl}
 use Rattle.std.proofs.Common.{arith, sym, ◌∙◌, ap, subst}
 use Rattle.std.proofs.lemmas.Int.{ints}
 use Rattle.std.specs.List.{AllByRecursion}
 use Rattle.std.specs.declared.option.Option.{Option}
 use Rattle.std.specs.declared.option.Option.TheVariants.{None, Some}
-use Rattle.std.specs.declared.cmp.Ordering.TheVariants.{Less}
-use Rattle.monomial.specs.Monomials.{monomial_cmp, monomial_times, IsMonomial, IsPowers}
+use Rattle.monomial.specs.Monomials.{IsMonomial}
 use Rattle.monomial.proofs.Exponents.{too_high-IsMonomial}
-use Rattle.monomial.proofs.Lower.{monomial_cmp-times}
 use Rattle.sparse_poly.specs.declared.Term.{Term}
 use Rattle.sparse_poly.specs.declared.entry.Share.{Share}
 use Rattle.sparse_poly.specs.declared.PolyFault.{PolyFault}
 use Rattle.sparse_poly.specs.declared.PolyFault.TheVariants.{Degree, Heavy, OutOfMemory}
 use Rattle.sparse_poly.specs.Polynomials.{coefficient, weight, row}
 use Rattle.sparse_poly.specs.Contributions.{higher, degree_of, IsFalling, IsNoDegree}
-use Rattle.sparse_poly.specs.Standing.{ssum, sweight, Agree, Stands, AllAbove, IsDescending, IsAdded, AllMonomials, IsHeavyFault, IsMerged}
-use Rattle.sparse_poly.proofs.Adding.{take_one, degree_of-append}
+use Rattle.sparse_poly.specs.Standing.{ssum, sweight, Agree, Stands, IsDescending, AllMonomials, IsHeavyFault, IsMerged}
+use Rattle.sparse_poly.proofs.Adding.{degree_of-append}
 use Rattle.sparse_poly.proofs.Evaluation.{coefficient-append, weight-append}
 use Rattle.sparse_poly.proofs.Sums.{ssum-append, sweight-append}
 use Rattle.sparse_poly.proofs.Standings.{agree_plus, agree_through, same_agrees, Stands-one}
-use Rattle.sparse_poly.proofs.Descending.{all_front, all_back, all_last, all_more, descending_more}
+use Rattle.sparse_poly.proofs.Descending.{all_front, all_back}
 
 pub all_at : (P : Term → Type 0) (us : List Term) (k : ℕ) (u : Term) → k < length us → u ≡ slice_index_or us k u → AllByRecursion P us → P u
 all_at P [] k u l e h = absurd (omega arith)
 all_at P (x ∷ xs) zero u l e h = subst P (sym e) h.0
 all_at P (x ∷ xs) (suc k) u l e h = all_at P xs k u (omega arith) e h.1
-
--- the terms before a term of a falling list are above it
-before_above : (us : List Term) (k : ℕ) (u : Term) → k < length us → u ≡ slice_index_or us k u → IsFalling us → AllByRecursion (λ (w : Term). monomial_cmp u.monomial w.monomial ≡ Less) (take k us)
-before_above [] k u l e h = absurd (omega arith)
-before_above (x ∷ xs) zero u l e h = tt
-before_above (x ∷ xs) (suc k) u l e h =
-    (all_at (λ (w : Term). monomial_cmp w.monomial x.monomial ≡ Less) xs k u (omega arith) e h.0, before_above xs k u (omega arith) e h.1)
-
--- the shares of the first k terms of a row fall, and what is below these terms gives what is below the shares
-pub record IsOrderedRow (t : Term) (us : List Term) (k : ℕ) (ss : List Share) : Type 0 where
-  pub falling : IsDescending ss
-  pub above : (m : List (ℕ × ℕ)) → IsPowers m → AllByRecursion (λ (w : Term). monomial_cmp m w.monomial ≡ Less) (take k us) → AllAbove (monomial_times t.monomial m) ss
-
-pub OrderedRow : Term → List Term → ℕ → List Share → Type 0
-OrderedRow t us k ss = IsMonomial t.monomial → AllMonomials us → IsFalling us → IsOrderedRow t us k ss
-
-pub OrderedRow-start : (t : Term) (us : List Term) → OrderedRow t us 0 []
-unfolding OrderedRow
-OrderedRow-start t us h i f = record { falling = tt; above = λ m p a. tt }
-
-pub OrderedRow-more : (t : Term) (us : List Term) (k : ℕ) (u : Term) (ss zs : List Share) → k < length us → u ≡ slice_index_or us k u → OrderedRow t us k ss → IsAdded t u ss zs → OrderedRow t us (k + 1) zs
-unfolding OrderedRow
-OrderedRow-more t us k u ss zs l e o a h i f = each (o h i f) a
-  where
-    longer : take (k + 1) us ≡ take k us ++ u ∷ []
-    longer = take_one us k u l e
-
-    split : (m : List (ℕ × ℕ)) → AllByRecursion (λ (w : Term). monomial_cmp m w.monomial ≡ Less) (take (k + 1) us) → AllByRecursion (λ (w : Term). monomial_cmp m w.monomial ≡ Less) (take k us ++ u ∷ [])
-    split m b = subst (AllByRecursion (λ (w : Term). monomial_cmp m w.monomial ≡ Less)) longer b
-
-    own : IsPowers u.monomial
-    own = (all_at (λ (w : Term). IsMonomial w.monomial) us k u l e i).powers
-
-    each : IsOrderedRow t us k ss → IsAdded t u ss zs → IsOrderedRow t us (k + 1) zs
-    each r (inl same) = record {
-      falling = subst IsDescending (sym same) r.falling;
-      above = λ m p b. subst (AllAbove (monomial_times t.monomial m)) (sym same) (r.above m p (all_front _ (take k us) (u ∷ []) (split m b)));
-    }
-    each r (inr (s, added, at)) = record {
-      falling = subst IsDescending (sym added) (descending_more ss s r.falling (subst (λ n. AllAbove n ss) (sym at) (r.above u.monomial own (before_above us k u l e f))));
-      above = λ m p b. subst (AllAbove (monomial_times t.monomial m)) (sym added)
-          (all_more (λ (x : Share). monomial_cmp (monomial_times t.monomial m) x.monomial ≡ Less) ss s (r.above m p (all_front _ (take k us) (u ∷ []) (split m b)))
-          (ap (monomial_cmp (monomial_times t.monomial m)) at ∙ monomial_cmp-times t.monomial m u.monomial h.powers p own (all_last _ (take k us) u (split m b))));
-    }
-
-pub OrderedRow-end : (t : Term) (us : List Term) (k : ℕ) (ss : List Share) → OrderedRow t us k ss → IsMonomial t.monomial → AllMonomials us → IsFalling us → IsDescending ss
-unfolding OrderedRow
-OrderedRow-end t us k ss o h i f = (o h i f).falling
 
 -- contributions that are handed in: some are shares, and the others are left
 pub record Gathered (cs rest : List Term) (ss : List Share) : Type 0 where

@@ -1,17 +1,19 @@
 -- Shares: sums of contributions to one monomial, and what they stand for.
-use Rattle.std.specs.Prelude.{◌≡◌, ◌<◌, ◌≤◌, ℕ, ◌+◌, ◌⊎◌, Bool, true, false, if◌then◌else◌, ℤ, pos, ◌+ℤ◌, List, [], ◌∷◌, ◌++◌, length}
+use Rattle.std.specs.Prelude.{◌≡◌, ◌<◌, ◌≤◌, ℕ, ◌+◌, ◌⊎◌, Bool, if◌then◌else◌, ℤ, pos, unsigned_abs, ◌+ℤ◌, ◌*ℤ◌, List, [], ◌∷◌, length}
+use Rattle.std.proofs.Common.{le_refl}
 use Rattle.std.specs.List.{AllByRecursion}
 use Rattle.std.specs.Ordering.{is_eq}
 use Rattle.std.specs.declared.cmp.Ordering.TheVariants.{Less}
 use Rattle.std.specs.declared.option.Option.{Option}
 use Rattle.std.specs.declared.option.Option.TheVariants.{None, Some}
-use Rattle.monomial.specs.Monomials.{monomial_cmp, monomial_times, IsMonomial}
+use Rattle.monomial.specs.Monomials.{monomial_cmp, monomial_times, too_high, IsMonomial}
 use Rattle.sparse_poly.specs.declared.entry.Share.{Share}
 use Rattle.sparse_poly.specs.declared.Term.{Term}
+use Rattle.sparse_poly.specs.declared.multiplying.Row.{Row}
 use Rattle.sparse_poly.specs.declared.merging.Front.{Front}
 use Rattle.sparse_poly.specs.declared.merging.Front.TheVariants.{Neither, First, Second, Both}
 use Rattle.sparse_poly.specs.Polynomials.{coefficient, weight}
-use Rattle.sparse_poly.specs.Contributions.{max_coeff, IsPoly}
+use Rattle.sparse_poly.specs.Contributions.{max_coeff, signed, kept, signed_row, higher, degree_of, IsPoly}
 use Rattle.sparse_poly.specs.declared.PolyFault.{PolyFault}
 use Rattle.sparse_poly.specs.declared.PolyFault.TheVariants.{Degree, Heavy, OutOfMemory}
 
@@ -78,32 +80,53 @@ pub record IsMerged (xs ys ss : List Share) : Type 0 where
   pub both : StandsForBoth ss xs ys
   pub falling : IsDescending xs → IsDescending ys → IsDescending ss
 
--- a share was moved from the front of a list to the end of another
-abbrev pub IsFrontMoved : List Share → List Share → List Share → List Share → Type 0
-IsFrontMoved ss xs ts ys = (us : List Share) (x : Share) → xs ≡ x ∷ us → (ts ≡ ss ++ x ∷ []) × (ys ≡ us)
-
--- shares above a monomial were moved from the front of a list to the end of another
-pub record IsMoved (m : List (ℕ × ℕ)) (ss xs ts ys : List Share) : Type 0 where
-  pub list : ts ++ ys ≡ ss ++ xs
-  pub above : AllAbove m ss → AllAbove m ts
-
--- whether the front of a list is of a monomial; if not, it is below
-abbrev pub IsFound : List Share → List (ℕ × ℕ) → Bool → Type 0
-IsFound xs m true = (us : List Share) (x : Share) → xs ≡ x ∷ us → x.monomial ≡ m
-IsFound xs m false = IsDescending xs → AllBelow m xs
-
--- a share of a monomial was put into a falling list in two parts, of which the first one holds what is above it, and then it too
-pub record KeepsOrder (m : List (ℕ × ℕ)) (ss xs ts ys : List Share) : Type 0 where
-  pub falling : IsDescending (ss ++ xs) → AllAbove m ss → IsDescending (ts ++ ys)
-  pub above : (k : List (ℕ × ℕ)) → monomial_cmp k m ≡ Less → AllAbove m ss → AllAbove k ts
-
 -- each monomial of a polynomial's terms is one
 abbrev pub AllMonomials : List Term → Type 0
 AllMonomials ts = AllByRecursion (λ (t : Term). IsMonomial t.monomial) ts
 
--- the product of two terms was added to shares, or not
-abbrev pub IsAdded : Term → Term → List Share → List Share → Type 0
-IsAdded t u old new = (new ≡ old) ⊎ ((s : Share) × (new ≡ old ++ s ∷ []) × (s.monomial ≡ monomial_times t.monomial u.monomial))
+-- the share of one contribution, with its sum as it is kept
+abbrev pub share_at : List (ℕ × ℕ) → ℤ → Share
+share_at m z = record { monomial = m; sum = kept z; weight = unsigned_abs (kept z); within = le_refl (unsigned_abs (kept z)) }
+
+-- a share before others, where its product is not of too high degree
+abbrev pub unless_high : Option ℕ → Share → List Share → List Share
+unless_high None s ss = s ∷ ss
+unless_high (Some v) s ss = ss
+
+-- the shares of one term, in the order of the others
+abbrev pub product_shares : Bool → Term → List Term → List Share
+product_shares minus t [] = []
+product_shares minus t (u ∷ us) = unless_high (too_high (monomial_times t.monomial u.monomial)) (share_at (monomial_times t.monomial u.monomial) (signed minus (t.coeff *ℤ u.coeff))) (product_shares minus t us)
+
+-- a share and the shares after it, their degree and their number: where there is no such share, there are none after it
+abbrev pub led : Option Share → List Share → List Share
+led None ss = []
+led (Some s) ss = s ∷ ss
+
+abbrev pub led_degree : Option Share → Option ℕ → Option ℕ
+led_degree None o = None
+led_degree (Some s) o = o
+
+abbrev pub led_length : Option Share → ℕ → ℕ
+led_length None n = 0
+led_length (Some s) n = n + 1
+
+-- the shares of a row that are not made, and their degree
+abbrev pub left_shares : Row → List Share
+left_shares r = product_shares r.minus r.term.now r.others.now
+
+abbrev pub left_degree : Row → Option ℕ
+left_degree r = degree_of (signed_row r.minus r.term.now r.others.now)
+
+-- the share of the last product of a row
+abbrev pub row_share : Row → List (ℕ × ℕ) → Share
+row_share r m = share_at m (signed r.minus (r.term.now.coeff *ℤ r.coeff))
+
+-- the next share of a row was made, with what is noted of too high degree before and now
+pub record IsMade (old new : Row) (before now : Option ℕ) (o : Option Share) : Type 0 where
+  pub shares : left_shares old ≡ led o (left_shares new)
+  pub degree : higher now (led_degree o (left_degree new)) ≡ higher before (left_degree old)
+  pub room : led_length o (length new.others.now) ≤ length old.others.now
 
 -- the shares of a polynomial that is light
 pub record IsLightSum (ds : List Share) (p : List Term) : Type 0 where

@@ -1,16 +1,15 @@
 //! The merge of two lists of shares that fall by their monomials, with early sums.
-ghost use Rattle.std.specs.Prelude.{◌≡◌, ◌+◌, ◌+ℤ◌, List, [], ◌∷◌, ◌++◌, IfOk, OnOk};
-ghost use Rattle.sparse_poly.specs.Standing.{Agree, StandsForBoth, KeepsOrder, IsMoved, IsFrontMoved, IsFound, IsTaken, IsNext, IsFront, IsMerged, IsSorted};
+ghost use Rattle.std.specs.Prelude.{◌≡◌, ◌+◌, ◌+ℤ◌, List, [], ◌∷◌, ◌++◌, IfOk};
+ghost use Rattle.sparse_poly.specs.Standing.{Agree, StandsForBoth, IsNext, IsFront, IsMerged, IsSorted};
 
 use crate::entry::Share;
 use crate::weighing::joined_sum;
-use monomial::Monomial;
 use std::alloc::AllocError;
 use std::cmp::Ordering;
 use std::collections::VecDeque;
 
-// Two shares of one monomial as one.
-fn joined(x: Share, y: Share) -> Share
+/// Two shares of one monomial as one.
+pub fn joined(x: Share, y: Share) -> Share
     ensures monomial { result.monomial ≡ x.monomial }
     ensures sum { Agree result.weight result.sum (x.weight + y.weight) (x.sum +ℤ y.sum) }
 {
@@ -109,73 +108,4 @@ pub fn next_share(first: &mut VecDeque<Share>, second: &mut VecDeque<Share>) -> 
             Some(joined(x, y))
         }
     }
-}
-
-/// Puts a share into a falling list in two parts, the shares that are done and those that follow. There it is joined to the one of its monomial. The shares above it are done then, and so is its own.
-pub fn put(
-    first: &mut VecDeque<Share>,
-    shares: &mut Vec<Share>,
-    share: Share,
-) -> Result<(), AllocError>
-    ensures sums { OnOk result (StandsForBoth (shares.new.items ++ first.new.items) (shares.old.items ++ first.old.items) (share ∷ [])) }
-    ensures order { OnOk result (KeepsOrder share.monomial shares.old.items first.old.items shares.new.items first.new.items) }
-{
-    let found = take_above(first, shares, &share.monomial)?;
-    shares.push(with_front(first, found, share))?;
-    Ok(())
-}
-
-// Moves the shares above a monomial from the front of a list to the end of another. Tells whether the next one is of that monomial.
-fn take_above(
-    first: &mut VecDeque<Share>,
-    shares: &mut Vec<Share>,
-    monomial: &Monomial,
-) -> Result<bool, AllocError>
-    ensures moved { OnOk result (IsMoved monomial.now shares.old.items first.old.items shares.new.items first.new.items) }
-    ensures front { IfOk result (IsFound first.new.items monomial.now) }
-{
-    'above: while let Some(x) = first.front() {
-        match x.monomial.order(monomial) {
-            Ordering::Less => return Ok(false),
-            Ordering::Equal => return Ok(true),
-            Ordering::Greater => take_front(first, shares)?,
-        }
-    }
-    Ok(false)
-}
-
-// Moves one share from the front of a list to the end of another.
-fn take_front(first: &mut VecDeque<Share>, shares: &mut Vec<Share>) -> Result<(), AllocError>
-    ensures { OnOk result (IsFrontMoved shares.old.items first.old.items shares.new.items first.new.items) }
-{
-    if let Some(x) = first.pop_front() {
-        shares.push(x)?;
-    }
-    Ok(())
-}
-
-// A share, joined to the front of a list if that is of its monomial.
-fn with_front(first: &mut VecDeque<Share>, found: bool, share: Share) -> Share
-    requires { IsFound first.now.items share.monomial found }
-    ensures taken { IsTaken first.old.items (share ∷ []) first.new.items [] result }
-    ensures monomial { result.monomial ≡ share.monomial }
-{
-    if !found {
-        return share;
-    }
-    match first.pop_front() {
-        Some(x) => joined(x, share),
-        None => share,
-    }
-}
-
-/// Moves what is left of a list to the end of another.
-pub fn take_rest(first: VecDeque<Share>, shares: &mut Vec<Share>) -> Result<(), AllocError>
-    ensures { OnOk result (shares.new.items ≡ shares.old.items ++ first.items) }
-{
-    let mut first = first;
-    'rest: while let Some(x) = first.pop_front() {
-        shares.push(x)?;
-    }
-    Ok(())
 }

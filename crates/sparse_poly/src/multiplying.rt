@@ -1,20 +1,22 @@
 //! Products of polynomials as shares.
-ghost use Rattle.std.specs.Prelude.{◌≡◌, ◌≤◌, ◌*ℤ◌, unsigned_abs, List, [], ◌∷◌, ◌++◌, OnOk, IfOk, IfErr, MatchResult};
+ghost use Rattle.std.specs.Prelude.{◌≡◌, ◌≤◌, ◌*ℤ◌, unsigned_abs, List, [], ◌∷◌, ◌++◌, OnOk, IfOk, IfErr, MatchResult, length, ◌+◌, option_map};
+ghost use Rattle.std.specs.Vec.{vec_len, vec_capacity};
 ghost use Rattle.std.specs.declared.option.Option.TheVariants.{None, Some};
-ghost use Rattle.monomial.specs.Monomials.{monomial_times, IsMonomial};
+ghost use Rattle.monomial.specs.Monomials.{IsMonomial};
 ghost use Rattle.sparse_poly.specs.Contributions.{max_coeff, signed, kept, signed_row, signed_products, higher, degree_of, contributions, IsFalling, IsPoly, IsResult, IsFault, IsNoDegree};
 ghost use Rattle.sparse_poly.specs.Polynomials.{products};
-ghost use Rattle.sparse_poly.specs.Standing.{Agree, Stands, AllMonomials, IsDescending, IsAdded, KeepsOrder};
+ghost use Rattle.sparse_poly.specs.Standing.{Agree, Stands, AllMonomials, IsDescending, share_at, product_shares, left_shares, left_degree, row_share, IsMade};
 
 use crate::entry::Share;
 use crate::layout::{are_few, is_laid, layout_for, without_layout};
-use crate::merging::{merge, put, sorted, take_rest};
+use crate::merging::{joined, merge, sorted};
 use crate::packing::{packed_combination, packed_multiplication};
 use crate::squeezing::squeeze;
 use crate::{PolyFault, Term};
 use monomial::{MonoFault, Monomial};
 use std::alloc::{AllocError, Global};
-use std::collections::VecDeque;
+use std::cmp::Ordering;
+use std::mem;
 
 /// The terms of `l*q - a*p`.
 pub fn combined(
@@ -207,6 +209,7 @@ fn small_product(x: i64, y: i64, minus: bool) -> i128
 fn share_of(monomial: Monomial, x: i128, y: i128, minus: bool) -> Share
     ensures monomial { result.monomial ≡ monomial }
     ensures sum { Agree result.weight result.sum (unsigned_abs (signed minus (x *ℤ y))) (signed minus (x *ℤ y)) }
+    ensures share { result ≡ share_at monomial (signed minus (x *ℤ y)) }
 {
     let sum = kept_product(x, y, minus);
     Share {
@@ -226,29 +229,93 @@ fn greater(high: Option<u32>, var: u32) -> Option<u32>
     }
 }
 
-// Adds one contribution.
-#[inline(always)]
-fn push_share(
-    t: &Term,
-    u: &Term,
+// The contributions of one term, which are made one after the other.
+#[derive(Drop)]
+struct Row<'a> {
+    term: &'a Term,
+    // The terms whose products are not made.
+    others: &'a [Term],
     minus: bool,
-    shares: &mut Vec<Share>,
-    high: &mut Option<u32>,
-) -> Result<(), AllocError>
-    ensures high { OnOk result (high.new ≡ higher high.old (degree_of (signed_row minus t.now (u.now ∷ [])))) }
-    ensures sums { OnOk result (high.new ≡ None → (cs : _) → Stands shares.old.items cs → Stands shares.new.items (cs ++ signed_row minus t.now (u.now ∷ []))) }
-    ensures order { OnOk result (IsAdded t.now u.now shares.old.items shares.new.items) }
-{
-    match t.monomial.times(&u.monomial) {
-        Ok(monomial) => {
-            shares.push(share_of(monomial, t.coeff, u.coeff, minus))?;
+    // The coefficient of the last term whose product was made.
+    coeff: i128,
+}
+
+impl<'a> Row<'a> {
+    // A row of which no product is made.
+    #[inline(always)]
+    fn new(term: &'a Term, others: &'a [Term], minus: bool) -> Row<'a>
+        ensures shares { left_shares result ≡ product_shares minus term.now others.now }
+        ensures degree { left_degree result ≡ degree_of (signed_row minus term.now others.now) }
+        ensures room { result.others.now ≡ others.now }
+    {
+        Row {
+            term,
+            others,
+            minus,
+            coeff: 0,
         }
-        Err(MonoFault::Degree { var }) => {
-            *high = greater(*high, var);
-        }
-        Err(MonoFault::OutOfMemory) => return Err(AllocError),
     }
-    Ok(())
+
+    // Makes the monomial of the next share, and goes past products of too high degree.
+    #[inline(always)]
+    fn next_product(&mut self, high: &mut Option<u32>) -> Result<Option<Monomial>, AllocError>
+        ensures { IfOk result (λ m. IsMade self.old self.new high.old high.new (option_map (row_share self.new) m)) }
+    {
+        'others: while let Some((other, others)) = self.others.split_first() {
+            self.others = others;
+            match self.term.monomial.times(&other.monomial) {
+                Ok(monomial) => {
+                    self.coeff = other.coeff;
+                    return Ok(Some(monomial));
+                }
+                Err(MonoFault::Degree { var }) => *high = greater(*high, var),
+                Err(MonoFault::OutOfMemory) => return Err(AllocError),
+            }
+        }
+        Ok(None)
+    }
+
+    // The share of the last product.
+    #[inline(always)]
+    fn share(&self, monomial: Monomial) -> Share
+        ensures { result ≡ row_share self.now monomial }
+    {
+        share_of(monomial, self.term.coeff, self.coeff, self.minus)
+    }
+
+    // Makes all shares that are left, at the end of others, where there is room for them.
+    #[inline(always)]
+    fn add_to(&mut self, shares: &mut Vec<Share>, high: &mut Option<u32>) -> Result<(), AllocError>
+        requires { vec_len shares.old + length self.old.others.now ≤ vec_capacity shares.old }
+        ensures shares { OnOk result (shares.new.items ≡ shares.old.items ++ left_shares self.old) }
+        ensures high { OnOk result (high.new ≡ higher high.old (left_degree self.old)) }
+    {
+        'others: while let Some((other, others)) = self.others.split_first() {
+            self.others = others;
+            match self.term.monomial.times(&other.monomial) {
+                Ok(monomial) => {
+                    let share = share_of(monomial, self.term.coeff, other.coeff, self.minus);
+                    shares.push_reserved(share);
+                }
+                Err(MonoFault::Degree { var }) => *high = greater(*high, var),
+                Err(MonoFault::OutOfMemory) => return Err(AllocError),
+            }
+        }
+        Ok(())
+    }
+
+    // The same, where few shares or none are left.
+    fn add_rest_to(
+        &mut self,
+        shares: &mut Vec<Share>,
+        high: &mut Option<u32>,
+    ) -> Result<(), AllocError>
+        requires { vec_len shares.old + length self.old.others.now ≤ vec_capacity shares.old }
+        ensures shares { OnOk result (shares.new.items ≡ shares.old.items ++ left_shares self.old) }
+        ensures high { OnOk result (high.new ≡ higher high.old (left_degree self.old)) }
+    {
+        self.add_to(shares, high)
+    }
 }
 
 // The contributions of one term, in falling order where the terms fall.
@@ -265,38 +332,11 @@ fn row_of(
     ensures order { IfOk result (λ v. IsMonomial t.now.monomial → AllMonomials us.now → IsFalling us.now → IsDescending v.items) }
 {
     let mut shares = Vec::with_capacity(alloc, us.len())?;
-    for u in us {
-        push_share(t, u, minus, &mut shares, high)?;
-    }
+    Row::new(t, us, minus).add_to(&mut shares, high)?;
     Ok(shares)
 }
 
-// Puts one contribution into its place among those of a first row, of which some are done.
-fn put_share(
-    t: &Term,
-    u: &Term,
-    minus: bool,
-    first: &mut VecDeque<Share>,
-    shares: &mut Vec<Share>,
-    high: &mut Option<u32>,
-) -> Result<(), AllocError>
-    ensures high { OnOk result (high.new ≡ higher high.old (degree_of (signed_row minus t.now (u.now ∷ [])))) }
-    ensures sums { OnOk result (high.new ≡ None → (cs : _) → Stands (shares.old.items ++ first.old.items) cs → Stands (shares.new.items ++ first.new.items) (cs ++ signed_row minus t.now (u.now ∷ []))) }
-    ensures order { OnOk result (KeepsOrder (monomial_times t.now.monomial u.now.monomial) shares.old.items first.old.items shares.new.items first.new.items) }
-{
-    match t.monomial.times(&u.monomial) {
-        Ok(monomial) => {
-            put(first, shares, share_of(monomial, t.coeff, u.coeff, minus))?;
-        }
-        Err(MonoFault::Degree { var }) => {
-            *high = greater(*high, var);
-        }
-        Err(MonoFault::OutOfMemory) => return Err(AllocError),
-    }
-    Ok(())
-}
-
-// The contributions of two terms: those of the first, into which those of the second are merged as they come.
+// The contributions of two terms, merged as they are made.
 fn pair_of(
     alloc: Global,
     t: &Term,
@@ -310,12 +350,33 @@ fn pair_of(
     ensures order { IfOk result (λ v. IsMonomial t.now.monomial → AllMonomials us.now → IsFalling us.now → IsDescending v.items) }
 {
     let _powers = s.monomial.len();
-    let mut first = VecDeque::from(row_of(alloc, t, us, minus, high)?);
-    let mut shares = Vec::with_capacity(alloc, first.len().saturating_add(us.len()))?;
-    for u in us {
-        put_share(s, u, minus, &mut first, &mut shares, high)?;
+    let mut shares = Vec::with_capacity(alloc, us.len().saturating_add(us.len()))?;
+    let mut going = Row::new(t, us, minus);
+    let mut waiting = Row::new(s, us, minus);
+    let Some(mut held) = waiting.next_product(high)? else {
+        going.add_rest_to(&mut shares, high)?;
+        return Ok(shares);
+    };
+    'both: while let Some(product) = going.next_product(high)? {
+        match product.order(&held) {
+            Ordering::Less => {
+                shares.push_reserved(waiting.share(held));
+                held = product;
+                mem::swap(&mut going, &mut waiting);
+            }
+            Ordering::Equal => {
+                shares.push_reserved(joined(going.share(product), waiting.share(held)));
+                let Some(next) = waiting.next_product(high)? else {
+                    going.add_rest_to(&mut shares, high)?;
+                    return Ok(shares);
+                };
+                held = next;
+            }
+            Ordering::Greater => shares.push_reserved(going.share(product)),
+        }
     }
-    take_rest(first, &mut shares)?;
+    shares.push_reserved(waiting.share(held));
+    waiting.add_rest_to(&mut shares, high)?;
     Ok(shares)
 }
 

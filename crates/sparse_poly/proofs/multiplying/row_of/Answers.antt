@@ -1,22 +1,16 @@
-use Rattle.std.proofs.Common.{arith}
-use Rattle.sparse_poly.proofs.Standings.{Rowed-start, Rowed-more, Rowed-end}
-use Rattle.sparse_poly.proofs.Rows.{OrderedRow-start, OrderedRow-more, OrderedRow-end}
+use Rattle.std.proofs.Common.{rules, ◌≡◌, subst, sym}
+use Rattle.sparse_poly.specs.Contributions.{signed_row, higher, degree_of}
+use Rattle.sparse_poly.specs.Standing.{product_shares, IsDescending}
+use Rattle.sparse_poly.proofs.RowShares.{row_sums, product_shares-fall}
 use Rattle.sparse_poly.proofs.multiplying.row_of.Goals as goal
 
-pub loop-u-init : goal.loop-u-init
-loop-u-init c = rw c.in_ok-shares.ensures.items (record { rowed = Rowed-start _ _ _ _; order = OrderedRow-start _ _ })
-
-pub loop-u-preserved : goal.loop-u-preserved
-loop-u-preserved c = record {
-  rowed = Rowed-more c.args.minus c.args.t.now c.args.us.now c.loop-u.u-index c.u-item.result _ _ _ _ _ c.loop-u-test.true c.u-item.is c.loop-u.invariant.rowed c.in_ok-push_share.ensures.high c.in_ok-push_share.ensures.sums;
-  order = OrderedRow-more c.args.t.now c.args.us.now c.loop-u.u-index c.u-item.result _ _ c.loop-u-test.true c.u-item.is c.loop-u.invariant.order c.in_ok-push_share.ensures.order;
-}
-
 pub returns-clause-sums : goal.returns-clause-sums
-returns-clause-sums c = (Rowed-end c.args.minus c.args.t.now c.args.us.now c.loop-u.u-index _ _ _ (omega arith) c.loop-u.invariant.rowed).1
-
-pub returns-clause-high : goal.returns-clause-high
-returns-clause-high c = (Rowed-end c.args.minus c.args.t.now c.args.us.now c.loop-u.u-index _ _ _ (omega arith) c.loop-u.invariant.rowed).0
+returns-clause-sums c =
+    let made : c.add_to.new.shares.items ≡ product_shares c.args.minus c.args.t.now c.args.us.now = search rules in
+    let noted : c.add_to.new.high ≡ higher c.args.high.now (degree_of (signed_row c.args.minus c.args.t.now c.args.us.now)) = search rules in
+    row_sums c.args.minus c.args.t.now c.args.us.now c.args.high.now _ _ (made, noted)
 
 pub returns-clause-order : goal.returns-clause-order
-returns-clause-order c = OrderedRow-end c.args.t.now c.args.us.now c.loop-u.u-index c.loop-u.shares.items c.loop-u.invariant.order
+returns-clause-order c h i f =
+    let made : c.add_to.new.shares.items ≡ product_shares c.args.minus c.args.t.now c.args.us.now = search rules in
+    subst IsDescending (sym made) (product_shares-fall c.args.minus c.args.t.now c.args.us.now h i f)
