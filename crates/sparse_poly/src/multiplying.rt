@@ -179,12 +179,21 @@ fn gathered(alloc: Global, terms: Vec<Term>) -> Result<Vec<Share>, AllocError>
 }
 
 /// The product of two coefficients with its sign, or the least number where it is out of range.
+#[inline(always)]
 pub fn kept_product(x: i128, y: i128, minus: bool) -> i128
     ensures { result ≡ kept (signed minus (x *ℤ y)) }
 {
     if let (Ok(x), Ok(y)) = (i64::try_from(x), i64::try_from(y)) {
         return small_product(x, y, minus);
     }
+    wide_product(x, y, minus)
+}
+
+// The same for coefficients of more than 64 bits.
+#[inline(never)]
+fn wide_product(x: i128, y: i128, minus: bool) -> i128
+    ensures { result ≡ kept (signed minus (x *ℤ y)) }
+{
     match x.checked_mul(y) {
         Some(z) => {
             if z == i128::MIN {
@@ -197,6 +206,7 @@ pub fn kept_product(x: i128, y: i128, minus: bool) -> i128
 }
 
 // The product of two coefficients of 64 bits with its sign.
+#[inline(always)]
 fn small_product(x: i64, y: i64, minus: bool) -> i128
     ensures value { result ≡ signed minus (x *ℤ y) }
     ensures bound { unsigned_abs result ≤ max_coeff }
