@@ -106,9 +106,6 @@ same_joined x y z zs e f a = record {
     assoc_sum a b c = omega (arith, ints)
 
 -- the greatest word
-pub greatest_of : (w : ℕ) (ss : List PackedShare) (s : PackedShare) → AreFalling (share_words (s ∷ ss)) → w ≡ s.word → IsGreatestWord (s ∷ ss) (Some w)
-greatest_of w ss s f e n = (λ h. subst (λ v. v < n) (sym e) h.0, λ l. let less : s.word < n = subst (λ v. v < n) e l in (less, under_more s.word n (share_words ss) (omega arith) f.0))
-
 pub never_empty : (ss : List PackedShare) (w : ℕ) → IsGreatestWord ss (Some w) → ss ≡ [] → ⊥
 never_empty ss w h e = let less : w < 0 = (h 0).0 (subst (λ xs. AllUnder 0 (share_words xs)) (sym e) tt) in omega arith
 
@@ -191,30 +188,6 @@ next_both fs gs ss ts v w x y z g i e h k d a =
 pub never_none : (old new : List PackedShare) (w : ℕ) (o : Option PackedShare) → IsGreatestWord old (Some w) → IsPackedNext old new o → o ≡ None → ⊥
 never_none old new w None g h e = never_empty old w g h.0
 never_none old new w (Some s) g h e = absurd (cc e)
-
--- the front of shares that fall
-front_taken : (xs : List PackedShare) (ss : List PackedShare) (s : PackedShare) → xs ≡ s ∷ ss → AreFalling (share_words xs) → IsPackedTaken xs ss s × AreFalling (share_words ss)
-front_taken xs ss s e f =
-    let falling : AreFalling (share_words (s ∷ ss)) = subst (λ ys. AreFalling (share_words ys)) e f in
-    (subst (λ ys. IsPackedTaken ys ss s) (sym e) (record { same = same_itself _; above = λ n l. (l, under_more s.word n (share_words ss) (omega arith) falling.0); below = falling.0 }), falling.1)
-
-front_greatest : (xs : List PackedShare) (ss : List PackedShare) (s : PackedShare) (w : ℕ) → xs ≡ s ∷ ss → AreFalling (share_words xs) → w ≡ s.word → IsGreatestWord xs (Some w)
-front_greatest xs ss s w e f g = subst (λ ys. IsGreatestWord ys (Some w)) (sym e) (greatest_of w ss s (subst (λ ys. AreFalling (share_words ys)) e f) g)
-
-pub stored_taken : (xs : List PackedShare) (k : ℕ) (x : PackedShare) → k < length xs → x ≡ slice_index_or xs k x → AreFalling (share_words (drop k xs)) → IsPackedTaken (drop k xs) (drop (k + 1) xs) x × AreFalling (share_words (drop (k + 1) xs))
-stored_taken xs k x h e f = front_taken (drop k xs) (drop (k + 1) xs) x (drop_at xs k x h e) f
-
-pub stored_greatest : (xs : List PackedShare) (k : ℕ) (x : PackedShare) → k < length xs → x ≡ slice_index_or xs k x → AreFalling (share_words (drop k xs)) → IsGreatestWord (drop k xs) (Some x.word)
-stored_greatest xs k x h e f = front_greatest (drop k xs) (drop (k + 1) xs) x x.word (drop_at xs k x h e) f refl
-
-row_at : (minus : Bool) (t : PackedTerm) (us : List PackedTerm) (k : ℕ) (u : PackedTerm) → k < length us → u ≡ slice_index_or us k u → row_shares minus t (drop k us) ≡ row_share minus t u ∷ row_shares minus t (drop (k + 1) us)
-row_at minus t us k u h e = ap (row_shares minus t) (drop_at us k u h e)
-
-pub row_taken : (minus : Bool) (t : PackedTerm) (us : List PackedTerm) (k : ℕ) (u : PackedTerm) (s : PackedShare) → k < length us → u ≡ slice_index_or us k u → s ≡ row_share minus t u → AreFalling (share_words (row_shares minus t (drop k us))) → IsPackedTaken (row_shares minus t (drop k us)) (row_shares minus t (drop (k + 1) us)) s × AreFalling (share_words (row_shares minus t (drop (k + 1) us)))
-row_taken minus t us k u s h e i f = front_taken _ _ s (row_at minus t us k u h e ∙ ap (λ x. x ∷ row_shares minus t (drop (k + 1) us)) (sym i)) f
-
-pub row_greatest : (minus : Bool) (t : PackedTerm) (us : List PackedTerm) (k : ℕ) (u : PackedTerm) → k < length us → u ≡ slice_index_or us k u → AreFalling (share_words (row_shares minus t (drop k us))) → IsGreatestWord (row_shares minus t (drop k us)) (Some (t.word + u.word))
-row_greatest minus t us k u h e f = front_greatest _ _ (row_share minus t u) (t.word + u.word) (row_at minus t us k u h e) f refl
 
 -- what is read in a layout
 pub under_after : (n : ℕ) (old new : List PackedShare) (s : PackedShare) → AllUnder n (share_words old) → IsPackedTaken old new s → AllUnder n (share_words new)

@@ -7,7 +7,7 @@ ghost use Rattle.sparse_poly.specs.Packing.{AllFit};
 ghost use Rattle.monomial.specs.Layouts.{monomial_of, AreFalling, IsLayout};
 ghost use Rattle.sparse_poly.specs.Packed.{shares_read, term_words, share_words, IsPackedList, AllUnder, AreProductShares, IsSameInFewer};
 
-use crate::packed_entry::PackedTerm;
+use crate::packed_entry::{PackedShare, PackedTerm};
 use crate::sources::{FallingShares, Merged, StoredShares, TermRow};
 use crate::squeezing::trimmed;
 use crate::{PolyFault, Term};
@@ -53,9 +53,9 @@ pub fn packed_combination(
         let second = pair(a, p, true);
         return squeeze(alloc, layout, Merged { first, second });
     }
-    let first = stored(alloc, l, q, false)?;
-    let second = stored(alloc, a, p, true)?;
-    squeeze(alloc, layout, Merged { first, second })
+    let first = listed(alloc, l, q, false)?;
+    let second = listed(alloc, a, p, true)?;
+    squeeze(alloc, layout, merged(&first, &second))
 }
 
 /// The terms of `l*q`, by words.
@@ -81,9 +81,9 @@ pub fn packed_multiplication(
         return squeeze(alloc, layout, pair(l, q, false));
     }
     let half = l.len() / 2;
-    let first = stored(alloc, &l[..half], q, false)?;
-    let second = stored(alloc, &l[half..], q, false)?;
-    squeeze(alloc, layout, Merged { first, second })
+    let first = listed(alloc, &l[..half], q, false)?;
+    let second = listed(alloc, &l[half..], q, false)?;
+    squeeze(alloc, layout, merged(&first, &second))
 }
 
 // The contributions to a product of at most two terms.
@@ -136,38 +136,57 @@ fn pack(terms: &[Term], layout: &Layout, packed: &mut PackedTerms) -> Result<(),
     Ok(())
 }
 
-// The contributions to a product, stored: by halves of the first factor.
-fn stored(
+// The contributions to a product as a falling list, by halves of the first factor.
+fn listed(
     alloc: Global,
     ts: &[PackedTerm],
     us: &[PackedTerm],
     minus: bool,
-) -> Result<StoredShares, AllocError>
+) -> Result<Vec<PackedShare>, AllocError>
     requires { AreFalling (term_words us.now) }
-    ensures sums { IfOk result (λ v. AreProductShares minus ts.now us.now (⟦<StoredShares as FallingShares>⟧.left v)) }
-    ensures falls { IfOk result (⟦<StoredShares as FallingShares>⟧.falls) }
+    ensures sums { IfOk result (λ v. AreProductShares minus ts.now us.now v.items) }
+    ensures falls { IfOk result (λ v. AreFalling (share_words v.items)) }
 {
     if ts.len() <= 2 {
         return collected(alloc, pair(ts, us, minus));
     }
     let half = ts.len() / 2;
-    let first = stored(alloc, &ts[..half], us, minus)?;
-    let second = stored(alloc, &ts[half..], us, minus)?;
-    collected(alloc, Merged { first, second })
+    let first = listed(alloc, &ts[..half], us, minus)?;
+    let second = listed(alloc, &ts[half..], us, minus)?;
+    collected(alloc, merged(&first, &second))
 }
 
-// The same shares, stored.
-fn collected<S: FallingShares + Drop>(alloc: Global, shares: S) -> Result<StoredShares, AllocError>
+// The merge of two lists, made as it is read.
+fn merged<'a>(
+    first: &'a [PackedShare],
+    second: &'a [PackedShare],
+) -> Merged<StoredShares<'a>, StoredShares<'a>>
+    requires first { AreFalling (share_words first.now) }
+    requires second { AreFalling (share_words second.now) }
+    ensures left { ⟦<Merged<StoredShares<'static>, StoredShares<'static>> as FallingShares>⟧.left result ≡ first.now ++ second.now }
+    ensures falls { ⟦<Merged<StoredShares<'static>, StoredShares<'static>> as FallingShares>⟧.falls result }
+{
+    Merged {
+        first: StoredShares::new(first),
+        second: StoredShares::new(second),
+    }
+}
+
+// The list of shares.
+fn collected<S: FallingShares + Drop>(
+    alloc: Global,
+    shares: S,
+) -> Result<Vec<PackedShare>, AllocError>
     requires { S.falls shares }
-    ensures same { IfOk result (λ v. IsSameInFewer (⟦<StoredShares as FallingShares>⟧.left v) (S.left shares)) }
-    ensures falls { IfOk result (⟦<StoredShares as FallingShares>⟧.falls) }
+    ensures same { IfOk result (λ v. IsSameInFewer v.items (S.left shares)) }
+    ensures falls { IfOk result (λ v. AreFalling (share_words v.items)) }
 {
     let mut shares = shares;
     let mut list = Vec::with_capacity(alloc, shares.count())?;
     'shares: while let Some(share) = shares.next() {
         list.push(share)?;
     }
-    Ok(StoredShares::new(list))
+    Ok(list)
 }
 
 // The sums of shares.

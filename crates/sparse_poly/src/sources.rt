@@ -1,5 +1,5 @@
 //! Lists of shares that are read from the greatest word down, stored or made as they are read.
-ghost use Rattle.std.specs.Prelude.{◌≡◌, ◌+◌, ◌+ℤ◌, List, ◌++◌, drop};
+ghost use Rattle.std.specs.Prelude.{◌≡◌, ◌+◌, ◌+ℤ◌, List, ◌++◌};
 ghost use Rattle.sparse_poly.specs.declared.packed_entry.PackedShare.{PackedShare};
 ghost use Rattle.sparse_poly.specs.Standing.{Agree};
 ghost use Rattle.sparse_poly.specs.Packed.{share_words, row_share, row_shares, IsGreatestWord, IsPackedNext};
@@ -39,7 +39,6 @@ pub struct TermRow<'a> {
     term: PackedTerm,
     others: &'a [PackedTerm],
     minus: bool,
-    place: usize,
 }
 
 impl<'a> TermRow<'a> {
@@ -52,83 +51,71 @@ impl<'a> TermRow<'a> {
             term,
             others,
             minus,
-            place: 0,
         }
     }
 }
 
 impl<'a> FallingShares for TermRow<'a> {
-    ghost left = { λ r. row_shares r.minus r.term (drop r.place r.others.now) };
+    ghost left = { λ r. row_shares r.minus r.term r.others.now };
 
-    ghost falls = { λ r. AreFalling (share_words (row_shares r.minus r.term (drop r.place r.others.now))) };
+    ghost falls = { λ r. AreFalling (share_words (row_shares r.minus r.term r.others.now)) };
 
     #[inline(always)]
     fn count(&self) -> usize {
-        self.others.len().saturating_sub(self.place)
+        self.others.len()
     }
 
     #[inline(always)]
     fn front(&self) -> Option<u128> {
-        if self.place >= self.others.len() {
-            return None;
-        }
-        Some(self.term.word + self.others[self.place].word)
+        let (other, _) = self.others.split_first()?;
+        Some(self.term.word + other.word)
     }
 
     #[inline(always)]
     fn next(&mut self) -> Option<PackedShare> {
-        if self.place >= self.others.len() {
-            return None;
-        }
-        let other = self.others[self.place];
-        self.place += 1;
-        Some(share_of(self.term, other, self.minus))
+        let (other, others) = self.others.split_first()?;
+        self.others = others;
+        Some(share_of(self.term, *other, self.minus))
     }
 }
 
 /// Shares that are stored.
-#[derive(Drop)]
-pub struct StoredShares {
-    shares: Vec<PackedShare>,
-    place: usize,
+#[derive(Clone, Copy)]
+pub struct StoredShares<'a> {
+    shares: &'a [PackedShare],
 }
 
-impl StoredShares {
+impl<'a> StoredShares<'a> {
     /// Stored shares, of which none is read yet.
-    pub fn new(shares: Vec<PackedShare>) -> StoredShares
-        ensures left { ⟦<StoredShares as FallingShares>⟧.left result ≡ shares.items }
-        ensures falls { AreFalling (share_words shares.items) → ⟦<StoredShares as FallingShares>⟧.falls result }
+    pub fn new(shares: &'a [PackedShare]) -> StoredShares<'a>
+        ensures left { ⟦<StoredShares<'static> as FallingShares>⟧.left result ≡ shares.now }
+        ensures falls { AreFalling (share_words shares.now) → ⟦<StoredShares<'static> as FallingShares>⟧.falls result }
     {
-        StoredShares { shares, place: 0 }
+        StoredShares { shares }
     }
 }
 
-impl FallingShares for StoredShares {
-    ghost left = { λ s. drop s.place s.shares.items };
+impl<'a> FallingShares for StoredShares<'a> {
+    ghost left = { λ s. s.shares.now };
 
-    ghost falls = { λ s. AreFalling (share_words (drop s.place s.shares.items)) };
+    ghost falls = { λ s. AreFalling (share_words s.shares.now) };
 
     #[inline(always)]
     fn count(&self) -> usize {
-        self.shares.len().saturating_sub(self.place)
+        self.shares.len()
     }
 
     #[inline(always)]
     fn front(&self) -> Option<u128> {
-        if self.place >= self.shares.len() {
-            return None;
-        }
-        Some(self.shares[self.place].word)
+        let (share, _) = self.shares.split_first()?;
+        Some(share.word)
     }
 
     #[inline(always)]
     fn next(&mut self) -> Option<PackedShare> {
-        if self.place >= self.shares.len() {
-            return None;
-        }
-        let share = self.shares[self.place];
-        self.place += 1;
-        Some(share)
+        let (share, shares) = self.shares.split_first()?;
+        self.shares = shares;
+        Some(*share)
     }
 }
 

@@ -11,7 +11,7 @@ shares-preserved g c = record {
 }
 
 pub returns-clause-same : goal.returns-clause-same
-returns-clause-same g c = rw c.new.ensures.left (Collecting-same _ _ _ c.shares.invariant.collecting (none_left _ _ c.next.result c.in_default.not-Some c.next.ensures.next))
+returns-clause-same g c = Collecting-same _ _ _ c.shares.invariant.collecting (none_left _ _ c.next.result c.in_default.not-Some c.next.ensures.next)
 
 pub returns-clause-falls : goal.returns-clause-falls
-returns-clause-falls g c = c.new.ensures.falls (Collecting-falls _ _ _ c.shares.invariant.collecting)
+returns-clause-falls g c = Collecting-falls _ _ _ c.shares.invariant.collecting

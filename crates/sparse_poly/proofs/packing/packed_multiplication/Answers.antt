@@ -20,18 +20,19 @@ returns-then-l-le2 c =
     let degree = multiplied_degree c.args.layout.now c.requires.layout false c.args.l.now c.args.q.now c.pack.new.packed.items c.pack-2.new.packed.items c.in_ok-pack.ensures c.in_ok-pack-2.ensures _ made in
     MatchResult-weaker c.squeeze.result c.squeeze.ensures (λ v s. IsResult-from_shares _ _ v.items stands degree s) (λ e s. IsFault-from_shares _ _ e stands degree s)
 
-pub stored-requires : goal.stored-requires
-stored-requires c = rw c.as_slice-q.ensures (words_fall c.args.layout.now c.args.q.now c.pack-2.new.packed.items c.requires.layout c.in_ok-pack-2.ensures c.requires.q_poly.falling)
+pub listed-requires : goal.listed-requires
+listed-requires c = rw c.as_slice-q.ensures (words_fall c.args.layout.now c.args.q.now c.pack-2.new.packed.items c.requires.layout c.in_ok-pack-2.ensures c.requires.q_poly.falling)
 
-pub stored-requires-2 : goal.stored-requires-2
-stored-requires-2 c = rw c.as_slice-q.ensures (words_fall c.args.layout.now c.args.q.now c.pack-2.new.packed.items c.requires.layout c.in_ok-pack-2.ensures c.requires.q_poly.falling)
+pub listed-requires-2 : goal.listed-requires-2
+listed-requires-2 c = rw c.as_slice-q.ensures (words_fall c.args.layout.now c.args.q.now c.pack-2.new.packed.items c.requires.layout c.in_ok-pack-2.ensures c.requires.q_poly.falling)
 
 pub squeeze-requires-2-clause-words : goal.squeeze-requires-2-clause-words
 squeeze-requires-2-clause-words c =
     let first = rw (c.as_slice-l.ensures, c.as_slice-q.ensures) at c.in_ok-first.ensures.sums in
     let second = rw (c.as_slice-l.ensures, c.as_slice-q.ensures) at c.in_ok-second.ensures.sums in
     let made = product_parts false c.pack.new.packed.items c.pack-2.new.packed.items _ _ _ _ (term_halves c.pack.new.packed.items (length c.pack.new.packed.items / 2)) first second in
-    multiplied_under c.args.layout.now c.requires.layout false c.args.l.now c.args.q.now c.pack.new.packed.items c.pack-2.new.packed.items c.in_ok-pack.ensures c.in_ok-pack-2.ensures _ made
+    rw (c.merged.ensures.left, c.deref.ensures.value, c.deref-2.ensures.value)
+    (multiplied_under c.args.layout.now c.requires.layout false c.args.l.now c.args.q.now c.pack.new.packed.items c.pack-2.new.packed.items c.in_ok-pack.ensures c.in_ok-pack-2.ensures _ made)
 
 pub returns : goal.returns
 returns c =
@@ -40,4 +41,5 @@ returns c =
     let made = product_parts false c.pack.new.packed.items c.pack-2.new.packed.items _ _ _ _ (term_halves c.pack.new.packed.items (length c.pack.new.packed.items / 2)) first second in
     let stands = multiplied_stand c.args.layout.now c.requires.layout false c.args.l.now c.args.q.now c.pack.new.packed.items c.pack-2.new.packed.items c.in_ok-pack.ensures c.in_ok-pack-2.ensures _ made in
     let degree = multiplied_degree c.args.layout.now c.requires.layout false c.args.l.now c.args.q.now c.pack.new.packed.items c.pack-2.new.packed.items c.in_ok-pack.ensures c.in_ok-pack-2.ensures _ made in
-    MatchResult-weaker c.squeeze-2.result c.squeeze-2.ensures (λ v s. IsResult-from_shares _ _ v.items stands degree s) (λ e s. IsFault-from_shares _ _ e stands degree s)
+    let made_by = rw (c.merged.ensures.left, c.deref.ensures.value, c.deref-2.ensures.value) at c.squeeze-2.ensures in
+    MatchResult-weaker c.squeeze-2.result made_by (λ v s. IsResult-from_shares _ _ v.items stands degree s) (λ e s. IsFault-from_shares _ _ e stands degree s)
