@@ -46,7 +46,3 @@ below_through (x ∷ xs) first k e l d =
 pub all_both : {X : Type 0} → (P : X → Type 0) (xs ys : List X) → AllByRecursion P xs → AllByRecursion P ys → AllByRecursion P (xs ++ ys)
 all_both P [] ys h i = i
 all_both P (x ∷ xs) ys h i = (h.0, all_both P xs ys h.1 i)
-
--- what is above a monomial is above a lower one
-pub above_less : (k m : List (ℕ × ℕ)) (xs : List Share) → monomial_cmp k m ≡ Less → AllAbove m xs → AllAbove k xs
-above_less k m xs l b = all_map (λ (x : Share). monomial_cmp m x.monomial ≡ Less) (λ (x : Share). monomial_cmp k x.monomial ≡ Less) xs (λ x h. monomial_cmp-IsTotalOrder.trans k m x.monomial l h) b

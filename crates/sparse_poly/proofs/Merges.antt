@@ -205,10 +205,6 @@ Merging-more xs ys us vs us' vs' out s g h = record {
       (new.0, new.1, descending_more out s old.2 low.1, all_more (λ (o : Share). AllBelow o.monomial us' × AllBelow o.monomial vs') out s low.0 (new.2, new.3));
 }
 
-pub Merging-agrees : (xs ys us vs out : List Share) → Merging xs ys us vs out → (m : List (ℕ × ℕ)) → Agree (sweight out m + (sweight us m + sweight vs m)) (ssum out m +ℤ (ssum us m +ℤ ssum vs m)) (sweight (xs ++ ys) m) (ssum (xs ++ ys) m)
-unfolding Sums
-Merging-agrees xs ys us vs out g m = agree_through _ _ _ _ _ _ (g.sums m) (same_agrees _ _ _ _ (sym (sweight-append m xs ys)) (sym (ssum-append m xs ys)))
-
 pub Merging-end : (xs ys us vs out : List Share) → Merging xs ys us vs out → (us ≡ []) × (vs ≡ []) → IsMerged xs ys out
 Merging-end xs ys us vs out g ended = record {
   both = Sums-end xs ys us vs out g.sums ended;

@@ -1,5 +1,5 @@
 -- Packed shares that are read from the greatest word down: merges that are made as they are read, and what is read in a layout.
-use Rattle.std.specs.Prelude.{◌≡◌, ◌<◌, ◌≤◌, ℕ, ◌+◌, ◌*◌, ◌^◌, ℤ, ◌+ℤ◌, Bool, List, [], ◌∷◌, ◌++◌, length, drop, slice_index_or, refl}
+use Rattle.std.specs.Prelude.{◌≡◌, ◌<◌, ◌≤◌, ℕ, ◌+◌, ◌*◌, ◌^◌, ℤ, ◌+ℤ◌, List, [], ◌∷◌, ◌++◌, length, refl}
 use mathlib.Core.Logic.{◌⊎◌, inl, inr}
 use Rattle.std.proofs.Common.{arith, sym, ◌∙◌, ap, subst, length-append, append_assoc}
 use Rattle.std.proofs.lemmas.Int.{ints}
@@ -12,13 +12,11 @@ use Rattle.monomial.specs.Monomials.{monomial_cmp}
 use Rattle.monomial.specs.Layouts.{AreFalling, IsLayout, monomial_of}
 use Rattle.monomial.proofs.Total.{monomial_cmp-IsTotalOrder}
 use Rattle.monomial.proofs.Words.{lower_monomial}
-use Rattle.sparse_poly.specs.declared.packed_entry.PackedTerm.{PackedTerm}
 use Rattle.sparse_poly.specs.declared.packed_entry.PackedShare.{PackedShare}
 use Rattle.sparse_poly.specs.Standing.{ssum, sweight, Agree, AllBelow}
-use Rattle.sparse_poly.specs.Packed.{Reading, share_read, shares_read, share_words, row_share, row_shares, AllUnder, IsSameInFewer, IsGreatestWord, IsPackedTaken, IsPackedNext}
+use Rattle.sparse_poly.specs.Packed.{Reading, share_read, shares_read, share_words, AllUnder, IsSameInFewer, IsGreatestWord, IsPackedTaken, IsPackedNext}
 use Rattle.sparse_poly.proofs.Descending.{all_map, all_more}
-use Rattle.sparse_poly.proofs.Packings.{drop_at, weight_of, sum_of, under_more, joined_words}
-use Rattle.sparse_poly.proofs.Places.{drop_end}
+use Rattle.sparse_poly.proofs.Packings.{weight_of, sum_of, joined_words}
 use Rattle.sparse_poly.proofs.Squeezes.{IsTakenFrom}
 use Rattle.sparse_poly.proofs.Standings.{agree_plus, agree_through, same_agrees}
 use Rattle.sparse_poly.proofs.Sums.{ssum-append, sweight-append}
@@ -184,10 +182,6 @@ next_both fs gs ss ts v w x y z g i e h k d a =
       above = λ n m. under_both n fs ss (h.above n (omega (arith, d, m))) (k.above n (omega (arith, d, equal, m)));
       below = under_both z.word gs ts (subst (λ n. AllUnder n (share_words gs)) (sym d) h.below) (subst (λ n. AllUnder n (share_words ts)) (sym (d ∙ equal)) k.below);
     }
-
-pub never_none : (old new : List PackedShare) (w : ℕ) (o : Option PackedShare) → IsGreatestWord old (Some w) → IsPackedNext old new o → o ≡ None → ⊥
-never_none old new w None g h e = never_empty old w g h.0
-never_none old new w (Some s) g h e = absurd (cc e)
 
 -- what is read in a layout
 pub under_after : (n : ℕ) (old new : List PackedShare) (s : PackedShare) → AllUnder n (share_words old) → IsPackedTaken old new s → AllUnder n (share_words new)

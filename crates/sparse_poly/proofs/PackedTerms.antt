@@ -12,22 +12,21 @@ use Rattle.monomial.specs.Monomials.{exponent, monomial_times, monomial_cmp, too
 use Rattle.monomial.proofs.Exponents.{exponent-times, IsPowers-times, too_high-IsMonomial}
 use Rattle.monomial.proofs.Total.{monomial_cmp-IsTotalOrder}
 use Rattle.sparse_poly.specs.declared.Term.{Term}
-use Rattle.sparse_poly.specs.declared.entry.Share.{Share}
 use Rattle.sparse_poly.specs.declared.packed_entry.PackedTerm.{PackedTerm}
 use Rattle.sparse_poly.specs.declared.packed_entry.PackedShare.{PackedShare}
 use Rattle.sparse_poly.specs.Polynomials.{row, products, negated}
 use Rattle.sparse_poly.specs.Contributions.{signed_products, contributions, higher, degree_of, IsFalling}
-use Rattle.sparse_poly.specs.Standing.{Stands, AllBelow, IsDescending}
+use Rattle.sparse_poly.specs.Standing.{Stands}
 use Rattle.sparse_poly.specs.Packing.{AllFit}
 use Rattle.monomial.specs.Layouts.{AreFalling, IsLayout, word_of, monomial_of, FitsLayout}
-use Rattle.sparse_poly.specs.Packed.{term_read, terms_read, shares_read, term_words, share_words, AreProducts, AllPackedIn, IsPackedIn, IsPackedList, AllUnder, AllHalves, IsPackedProduct, AreProductShares, IsSameInFewer}
+use Rattle.sparse_poly.specs.Packed.{term_read, terms_read, shares_read, term_words, share_words, AreProducts, AllPackedIn, IsPackedIn, IsPackedList, AllUnder, AllHalves, IsPackedProduct, IsPackedMerge, AreProductShares, IsSameInFewer}
 use Rattle.sparse_poly.proofs.Adding.{degree_of-append}
 use Rattle.sparse_poly.proofs.Descending.{all_map, all_more, all_front, all_back}
 use Rattle.monomial.proofs.Words.{word_of-times, word_half, monomial_of-word, IsPowers-monomial_of, IsMonomial-monomial_of, lower_monomial, fits_small, fits_known, fitting_monomial}
 use Rattle.sparse_poly.proofs.Places.{take_more, take_all, drop_end}
 use Rattle.sparse_poly.proofs.PackedSources.{shares_read-append, under_both}
 use Rattle.sparse_poly.proofs.Packings.{terms_read-append, term_words-append, append_products, drop_at}
-use Rattle.sparse_poly.proofs.Standings.{agree_through, Stands-append}
+use Rattle.sparse_poly.proofs.Standings.{agree_through, Stands-append, Stands-both}
 
 -- the first k terms, packed
 pub record PackedSoFar (vs : List ℕ) (ts : List Term) (k : ℕ) (out : List PackedTerm) : Type 0 where
@@ -183,6 +182,13 @@ product_parts minus ts us xs ys fs bs e f b = subst (λ zs. AreProductShares min
       (Stands-append _ _ _ _ (f.sums r (all_front _ xs ys p)) (b.sums r (all_back _ xs ys p))));
   under = λ n a h. let both : AllHalves n (term_words xs ++ term_words ys) = subst (AllHalves n) (term_words-append xs ys) a in
       under_both n fs bs (f.under n (all_front _ (term_words xs) (term_words ys) both) h) (b.under n (all_back _ (term_words xs) (term_words ys) both) h);
+})
+
+pub product_merged : (minus : Bool) (ts us xs ys : List PackedTerm) (fs bs zs : List PackedShare) → ts ≡ xs ++ ys → AreProductShares minus xs us fs → AreProductShares minus ys us bs → IsPackedMerge fs bs zs → AreProductShares minus ts us zs
+product_merged minus ts us xs ys fs bs zs e f b m = subst (λ ws. AreProductShares minus ws us zs) (sym e) (record {
+  sums = λ r p. subst (Stands (shares_read r zs)) (sym (append_products minus r (xs ++ ys) us xs ys refl)) (Stands-both _ _ _ _ _ (m.both r) (f.sums r (all_front _ xs ys p)) (b.sums r (all_back _ xs ys p)));
+  under = λ n a h. let both : AllHalves n (term_words xs ++ term_words ys) = subst (AllHalves n) (term_words-append xs ys) a in
+      m.under n (f.under n (all_front _ (term_words xs) (term_words ys) both) h) (b.under n (all_back _ (term_words xs) (term_words ys) both) h);
 })
 
 -- one or two terms

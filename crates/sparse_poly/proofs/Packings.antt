@@ -15,21 +15,59 @@ use Rattle.sparse_poly.specs.declared.packed_entry.PackedShare.{PackedShare}
 use Rattle.sparse_poly.specs.Contributions.{signed, kept, signed_row, signed_products}
 use Rattle.sparse_poly.specs.Standing.{ssum, sweight, Agree, Stands}
 use Rattle.monomial.specs.Layouts.{AreFalling}
-use Rattle.sparse_poly.specs.Packed.{Reading, term_read, terms_read, share_read, shares_read, term_words, share_words, AreProducts, AllUnder, AllHalves, raised, row_share, row_shares, IsPackedRow, IsPackedProduct}
+use Rattle.sparse_poly.specs.Packed.{Reading, term_read, terms_read, share_read, shares_read, term_words, share_words, AllUnder, raised, row_share, row_shares, IsPackedRow, IsPackedProduct, IsPackedMerge}
 use Rattle.sparse_poly.proofs.Evaluation.{zero_plus}
 use Rattle.sparse_poly.proofs.Adding.{signed_products-append, signed_products-one}
-use Rattle.sparse_poly.proofs.Standings.{agree_kept, agree_plus, agree_through, same_agrees, Stands-both, Stands-append, no_products}
-use Rattle.sparse_poly.proofs.Descending.{all_front, all_back, all_map}
+use Rattle.sparse_poly.proofs.Standings.{agree_kept, agree_plus, agree_through, same_agrees, no_products}
+use Rattle.sparse_poly.proofs.Descending.{all_map}
 use Rattle.sparse_poly.proofs.Places.{drop_one, drop_end}
 
 pub drop_at : {X : Type 0} → (xs : List X) (k : ℕ) (x : X) → k < length xs → x ≡ slice_index_or xs k x → drop k xs ≡ x ∷ drop (k + 1) xs
 drop_at xs k x h e = drop_one xs k x h ∙ ap (λ y. y ∷ drop (k + 1) xs) (sym e)
+
+-- what two reads of one place give
+pub same_read : {X : Type 0} → (xs : List X) (k : ℕ) (x y : X) → k < length xs → x ≡ slice_index_or xs k x → y ≡ slice_index_or xs k y → x ≡ y
+same_read [] k x y h e f = absurd (omega arith)
+same_read (z ∷ zs) zero x y h e f = e ∙ sym f
+same_read (z ∷ zs) (suc k) x y h e f = same_read zs k x y (omega arith) e f
 
 -- a read of a place gives the same for each share that stands for none
 pub read_any : {X : Type 0} → (xs : List X) (k : ℕ) (d : X) → k < length xs → slice_index_or xs k d ≡ slice_index_or xs k (slice_index_or xs k d)
 read_any [] k d h = absurd (omega arith)
 read_any (z ∷ zs) zero d h = refl
 read_any (z ∷ zs) (suc k) d h = read_any zs k d (omega arith)
+
+-- merges
+merge_none : (ys : List PackedShare) → IsPackedMerge [] ys ys
+merge_none ys = record {
+  both = λ r m. inl (plain (sweight (shares_read r ys) m), sym (zero_plus _));
+  falling = λ f g. g;
+  under = λ n a b. b;
+}
+  where
+    plain : (a : ℕ) → a ≡ 0 + a
+    plain a = omega arith
+
+merge_only : (xs : List PackedShare) → IsPackedMerge xs [] xs
+merge_only xs = record {
+  both = λ r m. inl (plain (sweight (shares_read r xs) m), plain_sum (ssum (shares_read r xs) m));
+  falling = λ f g. f;
+  under = λ n a b. a;
+}
+  where
+    plain : (a : ℕ) → a ≡ a + 0
+    plain a = omega arith
+
+    plain_sum : (a : ℤ) → a ≡ a +ℤ pos 0
+    plain_sum a = omega (arith, ints)
+
+pub append_end : (xs : List PackedShare) → xs ++ [] ≡ xs
+append_end [] = refl
+append_end (x ∷ xs) = ap (λ r. x ∷ r) (append_end xs)
+
+pub merge_rest : (xs ys : List PackedShare) → (xs ≡ []) ⊎ (ys ≡ []) → IsPackedMerge xs ys (xs ++ ys)
+merge_rest xs ys (inl e) = subst (λ us. IsPackedMerge us ys (us ++ ys)) (sym e) (merge_none ys)
+merge_rest xs ys (inr e) = subst (λ us. IsPackedMerge xs us (xs ++ us)) (sym e) (subst (IsPackedMerge xs []) (sym (append_end xs)) (merge_only xs))
 
 pub under_more : (n k : ℕ) (ws : List ℕ) → n ≤ k → AllUnder n ws → AllUnder k ws
 under_more n k ws l h = all_map (λ w. w < n) (λ w. w < k) ws (λ w g. omega arith) h
@@ -41,6 +79,34 @@ weight_of r m s = if is_eq (monomial_cmp m (r s.word)) then s.weight else 0
 abbrev pub sum_of : Reading → List (ℕ × ℕ) → PackedShare → ℤ
 sum_of r m s = if is_eq (monomial_cmp m (r s.word)) then s.sum else pos 0
 
+pub merge_first : (x y : PackedShare) (xs ys zs : List PackedShare) → y.word < x.word → IsPackedMerge xs (y ∷ ys) zs → IsPackedMerge (x ∷ xs) (y ∷ ys) (x ∷ zs)
+merge_first x y xs ys zs l g = record {
+  both = λ r m. agree_through _ _ _ _ _ _ (agree_plus (weight_of r m x) (weight_of r m x) _ _ (sum_of r m x) (sum_of r m x) _ _ (inl (refl, refl)) (g.both r m))
+      (same_agrees _ _ _ _ (assoc (weight_of r m x) _ _) (assoc_sum (sum_of r m x) (ssum (shares_read r xs) m) (ssum (shares_read r (y ∷ ys)) m)));
+  falling = λ f h. (g.under x.word f.0 (l, under_more y.word x.word (share_words ys) (omega arith) h.0), g.falling f.1 h);
+  under = λ n a b. (a.0, g.under n a.1 b);
+}
+  where
+    assoc : (a b c : ℕ) → a + (b + c) ≡ (a + b) + c
+    assoc a b c = omega arith
+
+    assoc_sum : (a b c : ℤ) → a +ℤ (b +ℤ c) ≡ (a +ℤ b) +ℤ c
+    assoc_sum a b c = omega (arith, ints)
+
+pub merge_second : (x y : PackedShare) (xs ys zs : List PackedShare) → x.word < y.word → IsPackedMerge (x ∷ xs) ys zs → IsPackedMerge (x ∷ xs) (y ∷ ys) (y ∷ zs)
+merge_second x y xs ys zs l g = record {
+  both = λ r m. agree_through _ _ _ _ _ _ (agree_plus (weight_of r m y) (weight_of r m y) _ _ (sum_of r m y) (sum_of r m y) _ _ (inl (refl, refl)) (g.both r m))
+      (same_agrees _ _ _ _ (assoc (weight_of r m y) (sweight (shares_read r (x ∷ xs)) m) (sweight (shares_read r ys) m)) (assoc_sum (sum_of r m y) (ssum (shares_read r (x ∷ xs)) m) (ssum (shares_read r ys) m)));
+  falling = λ f h. (g.under y.word (l, under_more x.word y.word (share_words xs) (omega arith) f.0) h.0, g.falling f h.1);
+  under = λ n a b. (b.0, g.under n a b.1);
+}
+  where
+    assoc : (a b c : ℕ) → a + (b + c) ≡ b + (a + c)
+    assoc a b c = omega arith
+
+    assoc_sum : (a b c : ℤ) → a +ℤ (b +ℤ c) ≡ b +ℤ (a +ℤ c)
+    assoc_sum a b c = omega (arith, ints)
+
 -- two shares of one word as one
 joined_at : (b : Bool) (z x y : PackedShare) → Agree z.weight z.sum (x.weight + y.weight) (x.sum +ℤ y.sum) → Agree (if b then z.weight else 0) (if b then z.sum else pos 0) ((if b then x.weight else 0) + (if b then y.weight else 0)) ((if b then x.sum else pos 0) +ℤ (if b then y.sum else pos 0))
 joined_at true z x y a = a
@@ -51,6 +117,70 @@ joined_words x y z e f a r m =
     subst (λ w. Agree (weight_of r m z) (sum_of r m z) ((if is_eq (monomial_cmp m (r w)) then x.weight else 0) + weight_of r m y) ((if is_eq (monomial_cmp m (r w)) then x.sum else pos 0) +ℤ sum_of r m y)) f
     (subst (λ w. Agree (weight_of r m z) (sum_of r m z) ((if is_eq (monomial_cmp m (r z.word)) then x.weight else 0) + (if is_eq (monomial_cmp m (r w)) then y.weight else 0)) ((if is_eq (monomial_cmp m (r z.word)) then x.sum else pos 0) +ℤ (if is_eq (monomial_cmp m (r w)) then y.sum else pos 0))) (f ∙ e)
     (joined_at (is_eq (monomial_cmp m (r z.word))) z x y a))
+
+pub merge_both : (x y z : PackedShare) (xs ys zs : List PackedShare) → x.word ≡ y.word → z.word ≡ x.word → Agree z.weight z.sum (x.weight + y.weight) (x.sum +ℤ y.sum) → IsPackedMerge xs ys zs → IsPackedMerge (x ∷ xs) (y ∷ ys) (z ∷ zs)
+merge_both x y z xs ys zs e f a g = record {
+  both = λ r m. agree_through _ _ _ _ _ _ (agree_plus _ _ _ _ _ _ _ _ (joined_words x y z e f a r m) (g.both r m))
+      (same_agrees _ _ _ _ (pairs (weight_of r m x) (weight_of r m y) _ _) (pairs_sum (sum_of r m x) (sum_of r m y) (ssum (shares_read r xs) m) (ssum (shares_read r ys) m)));
+  falling = λ h k. (g.under z.word (subst (λ n. AllUnder n (share_words xs)) (sym f) h.0) (subst (λ n. AllUnder n (share_words ys)) (sym (f ∙ e)) k.0), g.falling h.1 k.1);
+  under = λ n h k. (subst (λ w. w < n) (sym f) h.0, g.under n h.1 k.1);
+}
+  where
+    pairs : (a b c d : ℕ) → (a + b) + (c + d) ≡ (a + c) + (b + d)
+    pairs a b c d = omega arith
+
+    pairs_sum : (a b c d : ℤ) → (a +ℤ b) +ℤ (c +ℤ d) ≡ (a +ℤ c) +ℤ (b +ℤ d)
+    pairs_sum a b c d = omega (arith, ints)
+
+-- how far a merge has come: with any merge of what is left it makes one of all
+pub record PackedMerging (xs ys : List PackedShare) (i j : ℕ) (out : List PackedShare) : Type 0 where
+  pub first_in : i ≤ length xs
+  pub second_in : j ≤ length ys
+  pub merged : (zs : List PackedShare) → IsPackedMerge (drop i xs) (drop j ys) zs → IsPackedMerge xs ys (out ++ zs)
+
+pub PackedMerging-start : (xs ys : List PackedShare) → PackedMerging xs ys 0 0 []
+PackedMerging-start xs ys = record { first_in = omega arith; second_in = omega arith; merged = λ zs h. h }
+
+pub PackedMerging-first : (xs ys out : List PackedShare) (i j : ℕ) (x y : PackedShare) → i < length xs → j < length ys → x ≡ slice_index_or xs i x → y ≡ slice_index_or ys j y → y.word < x.word → PackedMerging xs ys i j out → PackedMerging xs ys (i + 1) j (out ++ x ∷ [])
+PackedMerging-first xs ys out i j x y h k e f l g =
+    let first = drop_at xs i x h e in
+    let second = drop_at ys j y k f in
+    record {
+      first_in = omega arith;
+      second_in = g.second_in;
+      merged = λ zs m. subst (IsPackedMerge xs ys) (sym (append_assoc out (x ∷ []) zs))
+          (g.merged (x ∷ zs) (subst (λ us. IsPackedMerge us (drop j ys) (x ∷ zs)) (sym first) (subst (λ us. IsPackedMerge (x ∷ drop (i + 1) xs) us (x ∷ zs)) (sym second) (merge_first x y _ _ zs l (subst (λ us. IsPackedMerge (drop (i + 1) xs) us zs) second m)))));
+    }
+
+pub PackedMerging-second : (xs ys out : List PackedShare) (i j : ℕ) (x y : PackedShare) → i < length xs → j < length ys → x ≡ slice_index_or xs i x → y ≡ slice_index_or ys j y → x.word < y.word → PackedMerging xs ys i j out → PackedMerging xs ys i (j + 1) (out ++ y ∷ [])
+PackedMerging-second xs ys out i j x y h k e f l g =
+    let first = drop_at xs i x h e in
+    let second = drop_at ys j y k f in
+    record {
+      first_in = g.first_in;
+      second_in = omega arith;
+      merged = λ zs m. subst (IsPackedMerge xs ys) (sym (append_assoc out (y ∷ []) zs))
+          (g.merged (y ∷ zs) (subst (λ us. IsPackedMerge us (drop j ys) (y ∷ zs)) (sym first) (subst (λ us. IsPackedMerge (x ∷ drop (i + 1) xs) us (y ∷ zs)) (sym second) (merge_second x y _ _ zs l (subst (λ us. IsPackedMerge us (drop (j + 1) ys) zs) first m)))));
+    }
+
+pub PackedMerging-both : (xs ys out : List PackedShare) (i j : ℕ) (x y z : PackedShare) → i < length xs → j < length ys → x ≡ slice_index_or xs i x → y ≡ slice_index_or ys j y → x.word ≡ y.word → z.word ≡ x.word → Agree z.weight z.sum (x.weight + y.weight) (x.sum +ℤ y.sum) → PackedMerging xs ys i j out → PackedMerging xs ys (i + 1) (j + 1) (out ++ z ∷ [])
+PackedMerging-both xs ys out i j x y z h k e f s w a g =
+    let first = drop_at xs i x h e in
+    let second = drop_at ys j y k f in
+    record {
+      first_in = omega arith;
+      second_in = omega arith;
+      merged = λ zs m. subst (IsPackedMerge xs ys) (sym (append_assoc out (z ∷ []) zs))
+          (g.merged (z ∷ zs) (subst (λ us. IsPackedMerge us (drop j ys) (z ∷ zs)) (sym first) (subst (λ us. IsPackedMerge (x ∷ drop (i + 1) xs) us (z ∷ zs)) (sym second) (merge_both x y z _ _ zs s w a m))));
+    }
+
+pub PackedMerging-end : (xs ys out : List PackedShare) (i j : ℕ) → (length xs ≤ i) ⊎ (length ys ≤ j) → PackedMerging xs ys i j out → IsPackedMerge xs ys ((out ++ drop i xs) ++ drop j ys)
+PackedMerging-end xs ys out i j h g =
+    subst (IsPackedMerge xs ys) (sym (append_assoc out (drop i xs) (drop j ys))) (g.merged (drop i xs ++ drop j ys) (merge_rest (drop i xs) (drop j ys) (each h)))
+  where
+    each : (length xs ≤ i) ⊎ (length ys ≤ j) → (drop i xs ≡ []) ⊎ (drop j ys ≡ [])
+    each (inl l) = inl (drop_end xs i l)
+    each (inr l) = inr (drop_end ys j l)
 
 -- one contribution before others
 Stands-cons : (s : Share) (t : Term) (ss : List Share) (cs : List Term) → s.monomial ≡ t.monomial → Agree s.weight s.sum (unsigned_abs t.coeff) t.coeff → Stands ss cs → Stands (s ∷ ss) (t ∷ cs)
@@ -91,12 +221,6 @@ same_share w a z b v c h k e f g =
 pub is_row_share : (minus : Bool) (t u : PackedTerm) (s : PackedShare) → s.word ≡ t.word + u.word → s.sum ≡ kept (signed minus (t.coeff *ℤ u.coeff)) → s.weight ≡ unsigned_abs (kept (signed minus (t.coeff *ℤ u.coeff))) → s ≡ row_share minus t u
 unfolding share_from
 is_row_share minus t u s e f g = same_share s.word (t.word + u.word) s.sum _ s.weight _ s.within (row_share minus t u).within e f g
-
-pub row_share_word : (minus : Bool) (t u : PackedTerm) (s : PackedShare) → s ≡ row_share minus t u → s.word ≡ t.word + u.word
-row_share_word minus t u s e = ap (λ (x : PackedShare). x.word) e
-
-pub row_share_sum : (minus : Bool) (t u : PackedTerm) (s : PackedShare) → s ≡ row_share minus t u → Agree s.weight s.sum (unsigned_abs (signed minus (t.coeff *ℤ u.coeff))) (signed minus (t.coeff *ℤ u.coeff))
-row_share_sum minus t u s e = subst (λ (x : PackedShare). Agree x.weight x.sum (unsigned_abs (signed minus (t.coeff *ℤ u.coeff))) (signed minus (t.coeff *ℤ u.coeff))) (sym e) (agree_kept (signed minus (t.coeff *ℤ u.coeff)))
 
 -- the shares of one term, as a list
 row_shares-row : (minus : Bool) (t : PackedTerm) (us : List PackedTerm) → IsPackedRow minus t us (row_shares minus t us)

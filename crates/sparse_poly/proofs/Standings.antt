@@ -1,5 +1,5 @@
 -- Shares and what they stand for: sums in range are exact, and sums out of range stay so.
-use Rattle.std.specs.Prelude.{◌≡◌, ◌<◌, ◌≤◌, ℕ, ◌+◌, ◌-◌, Bool, true, false, if◌then◌else◌, nat_le, ℤ, pos, negsuc, unsigned_abs, ◌+ℤ◌, List, [], ◌∷◌, ◌++◌, length, slice_index_or, take, drop, ◌*ℤ◌, refl}
+use Rattle.std.specs.Prelude.{◌≡◌, ◌<◌, ◌≤◌, ℕ, ◌+◌, ◌-◌, Bool, true, false, if◌then◌else◌, nat_le, ℤ, pos, negsuc, unsigned_abs, ◌+ℤ◌, List, [], ◌∷◌, ◌++◌, length, take, drop, ◌*ℤ◌, refl}
 use mathlib.Core.Logic.{inl, inr}
 use Rattle.std.proofs.Common.{arith, sym, ◌∙◌, ap, subst}
 use Rattle.std.specs.Ordering.{is_eq}
@@ -18,7 +18,7 @@ use Rattle.sparse_poly.specs.declared.PolyFault.{PolyFault}
 use Rattle.sparse_poly.specs.declared.PolyFault.TheVariants.{Degree, Heavy, OutOfMemory}
 use Rattle.sparse_poly.specs.Polynomials.{products, negated}
 use Rattle.sparse_poly.specs.Contributions.{max_coeff, signed, signed_row, kept, higher, degree_of, contributions, signed_products, IsResult, IsFault}
-use Rattle.sparse_poly.proofs.Adding.{none_before, degree_of-append, higher-None, higher-assoc, take_one, take_whole, signed_row-append, signed_products-append}
+use Rattle.sparse_poly.proofs.Adding.{none_before, degree_of-append, higher-assoc, signed_products-append}
 
 pair : (a b c d : ℕ) → a ≡ b → c ≡ d → a + c ≡ b + d
 pair a b c d e f = omega arith
@@ -110,40 +110,9 @@ Stands-one s t e a m = agree_plus _ _ _ _ _ _ _ _ (subst (λ n. Agree (if is_eq 
     either true = a
     either false = inl (refl, refl)
 
-pub Stands-push : (ss : List Share) (s : Share) (cs : List Term) (t : Term) → Stands ss cs → Stands (s ∷ []) (t ∷ []) → Stands (ss ++ s ∷ []) (cs ++ t ∷ [])
-Stands-push ss s cs t a b m =
-    agree_through _ _ _ _ _ _ (same_agrees _ _ _ _ (sweight-append m ss (s ∷ [])) (ssum-append m ss (s ∷ []))) (agree_through _ _ _ _ _ _ (agree_plus _ _ _ _ _ _ _ _ (a m) (b m)) (same_agrees _ _ _ _ (sym (weight-append m cs (t ∷ []))) (sym (coefficient-append m cs (t ∷ [])))))
-
 pub row_one : (b : Bool) (t u : Term) → signed_row b t (u ∷ []) ≡ record { monomial = monomial_times t.monomial u.monomial; coeff = signed b (t.coeff *ℤ u.coeff) } ∷ []
 row_one false t u = refl
 row_one true t u = refl
-
--- one contribution more
-pub Stands-share : (b : Bool) (t u : Term) (ss us : List Share) (s : Share) (cs : List Term) → us ≡ ss ++ s ∷ [] → s.monomial ≡ monomial_times t.monomial u.monomial → Agree s.weight s.sum (unsigned_abs (signed b (t.coeff *ℤ u.coeff))) (signed b (t.coeff *ℤ u.coeff)) → Stands ss cs → Stands us (cs ++ signed_row b t (u ∷ []))
-Stands-share b t u ss us s cs e m a st =
-    rw (e, row_one b t u) (Stands-push ss s cs (record { monomial = monomial_times t.monomial u.monomial; coeff = signed b (t.coeff *ℤ u.coeff) }) st (Stands-one s _ m a))
-
--- how far a row has come
-pub record Rowed (b : Bool) (t : Term) (us : List Term) (k : ℕ) (old now : Option ℕ) (ss : List Share) : Type 0 where
-  pub high : now ≡ higher old (degree_of (signed_row b t (take k us)))
-  pub sums : now ≡ None → Stands ss (signed_row b t (take k us))
-
-pub Rowed-start : (b : Bool) (t : Term) (us : List Term) (old : Option ℕ) → Rowed b t us 0 old old []
-Rowed-start false t us old = record { high = sym (higher-None old); sums = λ _ m. inl (refl, refl) }
-Rowed-start true t us old = record { high = sym (higher-None old); sums = λ _ m. inl (refl, refl) }
-
-pub Rowed-more : (b : Bool) (t : Term) (us : List Term) (k : ℕ) (u : Term) (old now new : Option ℕ) (ss zs : List Share) → k < length us → u ≡ slice_index_or us k u → Rowed b t us k old now ss → new ≡ higher now (degree_of (signed_row b t (u ∷ []))) → (new ≡ None → (cs : List Term) → Stands ss cs → Stands zs (cs ++ signed_row b t (u ∷ []))) → Rowed b t us (k + 1) old new zs
-Rowed-more b t us k u old now new ss zs l e r h f =
-    let row : signed_row b t (take (k + 1) us) ≡ signed_row b t (take k us) ++ signed_row b t (u ∷ []) = ap (signed_row b t) (take_one us k u l e) ∙ signed_row-append b t (take k us) (u ∷ []) in
-    record {
-      high = h ∙ ap (λ o. higher o (degree_of (signed_row b t (u ∷ [])))) r.high ∙ higher-assoc old (degree_of (signed_row b t (take k us))) (degree_of (signed_row b t (u ∷ []))) ∙ ap (higher old) (sym (degree_of-append (signed_row b t (take k us)) (signed_row b t (u ∷ []))) ∙ ap degree_of (sym row));
-      sums = λ n. rw row (f n (signed_row b t (take k us)) (r.sums (none_before now (degree_of (signed_row b t (u ∷ []))) (sym h ∙ n))));
-    }
-
-pub Rowed-end : (b : Bool) (t : Term) (us : List Term) (k : ℕ) (old now : Option ℕ) (ss : List Share) → k ≡ length us → Rowed b t us k old now ss → (now ≡ higher old (degree_of (signed_row b t us))) × (now ≡ None → Stands ss (signed_row b t us))
-Rowed-end b t us k old now ss e r =
-    let row : signed_row b t (take k us) ≡ signed_row b t us = ap (signed_row b t) (take_whole us k e) in
-    (r.high ∙ ap (λ cs. higher old (degree_of cs)) row, λ n. rw row at (r.sums n))
 
 -- the halves of a product
 pub halves : (ts : List Term) (k : ℕ) → ts ≡ take k ts ++ take (length ts - k) (drop k ts)

@@ -1,5 +1,5 @@
 -- Packed terms and shares, and what they stand for where each word is read as a monomial.
-use Rattle.std.specs.Prelude.{◌≡◌, ◌<◌, ◌≤◌, ◌↔◌, ℕ, ◌+◌, Bool, ◌*ℤ◌, unsigned_abs, List, [], ◌∷◌, ◌++◌, length}
+use Rattle.std.specs.Prelude.{◌≡◌, ◌<◌, ◌≤◌, ◌↔◌, ℕ, ◌+◌, Bool, ◌*ℤ◌, unsigned_abs, List, [], ◌∷◌, length}
 use Rattle.std.proofs.Common.{le_refl}
 use Rattle.std.specs.declared.option.Option.{Option}
 use Rattle.std.specs.declared.option.Option.TheVariants.{None, Some}
@@ -11,7 +11,7 @@ use Rattle.sparse_poly.specs.declared.packed_entry.PackedTerm.{PackedTerm}
 use Rattle.sparse_poly.specs.declared.packed_entry.PackedShare.{PackedShare}
 use Rattle.sparse_poly.specs.Contributions.{signed, kept, signed_row, signed_products}
 use Rattle.sparse_poly.specs.Standing.{ssum, sweight, Agree, Stands, StandsForBoth}
-use Rattle.monomial.specs.Layouts.{AreFalling, IsLayout, word_of, monomial_of, FitsLayout}
+use Rattle.monomial.specs.Layouts.{AreFalling, word_of, monomial_of, FitsLayout}
 
 -- a way to read words
 abbrev pub Reading : Type 0
@@ -88,6 +88,12 @@ pub record IsPackedProduct (minus : Bool) (ts us : List PackedTerm) (ss : List P
   pub sums : (r : Reading) → AreProducts r ts us → Stands (shares_read r ss) (signed_products minus (terms_read r ts) (terms_read r us))
   pub falling : AreFalling (term_words us) → AreFalling (share_words ss)
   pub under : (n : ℕ) → AllHalves n (term_words ts) → AllHalves n (term_words us) → AllUnder n (share_words ss)
+
+-- falling shares that add up to the sums of two falling lists
+pub record IsPackedMerge (xs ys zs : List PackedShare) : Type 0 where
+  pub both : (r : Reading) → StandsForBoth (shares_read r zs) (shares_read r xs) (shares_read r ys)
+  pub falling : AreFalling (share_words xs) → AreFalling (share_words ys) → AreFalling (share_words zs)
+  pub under : (n : ℕ) → AllUnder n (share_words xs) → AllUnder n (share_words ys) → AllUnder n (share_words zs)
 
 -- shares that stand for the contributions to a product
 pub record AreProductShares (minus : Bool) (ts us : List PackedTerm) (ss : List PackedShare) : Type 0 where

@@ -18,11 +18,7 @@ pub fn layout_for(alloc: Global, l: &[Term], q: &[Term], a: &[Term], p: &[Term])
     ensures p { IfSome result (λ y. AllFit y p.now) }
 {
     if let Some(layout) = stored_layout(q) {
-        if all_fit(&layout, l)
-            && all_fit(&layout, q)
-            && all_fit(&layout, a)
-            && all_fit(&layout, p)
-        {
+        if all_factors_fit(&layout, l, q, a, p) {
             return Some(layout);
         }
     }
@@ -30,11 +26,7 @@ pub fn layout_for(alloc: Global, l: &[Term], q: &[Term], a: &[Term], p: &[Term])
         return None;
     }
     let layout = common_layout(alloc, l, q, a, p)?;
-    if all_fit(&layout, l) && all_fit(&layout, q) && all_fit(&layout, a) && all_fit(&layout, p) {
-        Some(layout)
-    } else {
-        None
-    }
+    all_factors_fit(&layout, l, q, a, p).then_some(layout)
 }
 
 /// Whether there are less than three contributions to `l*q - a*p` for each term of the factors.
@@ -109,6 +101,17 @@ fn stored_layout(terms: &[Term]) -> Option<Layout> {
         Some(term) => term.monomial.layout(),
         None => None,
     }
+}
+
+// Whether all monomials of four factors fit a layout.
+fn all_factors_fit(layout: &Layout, l: &[Term], q: &[Term], a: &[Term], p: &[Term]) -> bool
+    ensures layout { IsTrue result → IsLayout layout.now }
+    ensures l { IsTrue result → AllFit layout.now l.now }
+    ensures q { IsTrue result → AllFit layout.now q.now }
+    ensures a { IsTrue result → AllFit layout.now a.now }
+    ensures p { IsTrue result → AllFit layout.now p.now }
+{
+    all_fit(layout, l) && all_fit(layout, q) && all_fit(layout, a) && all_fit(layout, p)
 }
 
 // Whether all monomials fit a layout.

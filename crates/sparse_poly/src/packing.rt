@@ -5,15 +5,16 @@ ghost use Rattle.sparse_poly.specs.Polynomials.{products};
 ghost use Rattle.sparse_poly.specs.Standing.{IsLightSum, IsHeavyFault};
 ghost use Rattle.sparse_poly.specs.Packing.{AllFit};
 ghost use Rattle.monomial.specs.Layouts.{monomial_of, AreFalling, IsLayout};
-ghost use Rattle.sparse_poly.specs.Packed.{shares_read, term_words, share_words, IsPackedList, AllUnder, AreProductShares, IsSameInFewer};
+ghost use Rattle.sparse_poly.specs.Packed.{shares_read, term_words, share_words, IsPackedList, AllUnder, AreProductShares, IsSameInFewer, IsPackedMerge};
 
 use crate::packed_entry::{PackedShare, PackedTerm};
-use crate::sources::{FallingShares, Merged, StoredShares, TermRow};
+use crate::sources::{FallingShares, Merged, StoredShares, TermRow, joined};
 use crate::squeezing::trimmed;
 use crate::{PolyFault, Term};
 use monomial::{Layout, Monomial};
 use smallvec::SmallVec;
 use std::alloc::{AllocError, Global};
+use std::cmp::Ordering;
 
 // The contributions of two terms, made as they are read.
 type Pair<'a> = Merged<TermRow<'a>, TermRow<'a>>;
@@ -153,7 +154,40 @@ fn listed(
     let half = ts.len() / 2;
     let first = listed(alloc, &ts[..half], us, minus)?;
     let second = listed(alloc, &ts[half..], us, minus)?;
-    collected(alloc, merged(&first, &second))
+    merge(alloc, &first, &second)
+}
+
+// Two falling lists as one.
+fn merge(
+    alloc: Global,
+    first: &[PackedShare],
+    second: &[PackedShare],
+) -> Result<Vec<PackedShare>, AllocError>
+    ensures { IfOk result (λ v. IsPackedMerge first.now second.now v.items) }
+{
+    let mut shares = Vec::with_capacity(alloc, first.len().saturating_add(second.len()))?;
+    let mut i = 0;
+    let mut j = 0;
+    'both: while i < first.len() && j < second.len() {
+        match first[i].word.cmp(&second[j].word) {
+            Ordering::Less => {
+                shares.push_reserved(second[j]);
+                j += 1;
+            }
+            Ordering::Equal => {
+                shares.push_reserved(joined(first[i], second[j]));
+                i += 1;
+                j += 1;
+            }
+            Ordering::Greater => {
+                shares.push_reserved(first[i]);
+                i += 1;
+            }
+        }
+    }
+    shares.extend_from_slice(&first[i..])?;
+    shares.extend_from_slice(&second[j..])?;
+    Ok(shares)
 }
 
 // The merge of two lists, made as it is read.

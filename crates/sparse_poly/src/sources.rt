@@ -180,8 +180,8 @@ fn share_of(t: PackedTerm, u: PackedTerm, minus: bool) -> PackedShare
     }
 }
 
-// Two shares of one word as one.
-fn joined(x: PackedShare, y: PackedShare) -> PackedShare
+/// Two shares of one word as one.
+pub fn joined(x: PackedShare, y: PackedShare) -> PackedShare
     ensures word { result.word ≡ x.word }
     ensures sum { Agree result.weight result.sum (x.weight + y.weight) (x.sum +ℤ y.sum) }
 {

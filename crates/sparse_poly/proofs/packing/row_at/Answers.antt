@@ -1,8 +1,5 @@
-use Rattle.std.proofs.Common.{◌≡◌, ◌∙◌, sym, subst, take, drop}
-use Rattle.sparse_poly.specs.declared.packed_entry.PackedTerm.{PackedTerm}
-use Rattle.sparse_poly.specs.Packed.{row_shares, AreProductShares}
 use Rattle.sparse_poly.proofs.Packings.{product_shares}
-use Rattle.sparse_poly.proofs.PackedTerms.{product_list, one_at, none_at}
+use Rattle.sparse_poly.proofs.PackedTerms.{product_list, one_at}
 use Rattle.sparse_poly.proofs.packing.row_at.Goals as goal
 
 pub returns-then-place-ts-clause-sums : goal.returns-then-place-ts-clause-sums

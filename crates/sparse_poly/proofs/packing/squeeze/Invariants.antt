@@ -1,4 +1,4 @@
-use Rattle.std.proofs.Common.{length, ◌+◌, ◌*◌, ◌^◌, ◌≤◌}
+use Rattle.std.proofs.Common.{length, ◌*◌, ◌^◌}
 use Rattle.monomial.specs.Layouts.{monomial_of}
 use Rattle.sparse_poly.specs.Packed.{share_words, shares_read, AllUnder}
 use Rattle.sparse_poly.proofs.Squeezes.{Squeezed}

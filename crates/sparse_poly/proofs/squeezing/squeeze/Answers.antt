@@ -1,7 +1,6 @@
-use Rattle.std.proofs.Common.{rules, arith, ◌≡◌, ◌≤◌, ◌<◌, ◌++◌, to_z, of_z, sym, ap, ◌∙◌, subst}
+use Rattle.std.proofs.Common.{rules, arith, ◌≡◌, ◌≤◌, ◌<◌, ◌++◌, to_z, of_z, ap, ◌∙◌}
 use Rattle.std.specs.Int.{w128}
 use Rattle.sparse_poly.specs.Contributions.{max_coeff}
-use Rattle.sparse_poly.specs.Standing.{IsDescending}
 use Rattle.sparse_poly.proofs.Merges.{no_next}
 use Rattle.sparse_poly.proofs.Squeezes.{IsTakenFrom-both, Squeezed-start, Squeezed-dropped, Squeezed-pushed, Squeezed-heavy, Squeezed-end, zero_bits, apart_bits}
 use Rattle.sparse_poly.proofs.squeezing.squeeze.Goals as goal

@@ -1,5 +1,3 @@
-use Rattle.std.proofs.Common.{rules, arith, ◌≡◌, ◌≤◌}
-use mathlib.Core.Logic.{◌⊎◌}
 use Rattle.sparse_poly.proofs.PackedSources.{greatest_first, greatest_both, greatest_second, greater_of}
 use Rattle.sparse_poly.proofs.sources.MergedFallingShares.front.Goals as goal
 

@@ -1,5 +1,5 @@
 use Rattle.std.proofs.Common.{rules, ◌≡◌, ◌<◌}
-use Rattle.sparse_poly.proofs.PackedSources.{next_first, next_only_first, next_second, next_only_second, next_both, never_empty}
+use Rattle.sparse_poly.proofs.PackedSources.{next_first, next_second, next_both, never_empty}
 use Rattle.sparse_poly.proofs.sources.MergedFallingShares.next.Goals as goal
 
 pub returns-in_err-x-in-Equal-clause-next : goal.returns-in_err-x-in-Equal-clause-next
