@@ -5,6 +5,7 @@
 //! variables, all exponents in one word throughout.
 mod monomial;
 mod poly;
+mod rows;
 mod words;
 
 use monomial::{Keyed, Listed, Monomial, Packed, PACKED};
@@ -144,7 +145,7 @@ fn main() -> ExitCode {
         return ExitCode::from(2);
     };
     let answer = match plan.form {
-        Form::Packed => run::<Packed>(&plan, combine, |l, q, _, _| times(l, q)),
+        Form::Packed => run::<Packed>(&plan, rows::combine, |l, q, _, _| rows::times(l, q)),
         Form::Mixed => run::<Keyed>(&plan, words::combine, |l, q, _, _| words::times(l, q)),
         Form::Keyed => run::<Keyed>(&plan, combine, |l, q, _, _| times(l, q)),
         Form::Listed => run::<Listed>(&plan, combine, |l, q, _, _| times(l, q)),

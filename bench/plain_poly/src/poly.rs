@@ -15,6 +15,17 @@ pub struct Share<M> {
     weight: u128,
 }
 
+impl<M> Share<M> {
+    /// The term of this share, unless its sum is zero.
+    #[inline]
+    pub fn term(self) -> Result<Option<Term<M>>, Fault> {
+        if self.weight > i128::MAX as u128 {
+            return Err(Fault);
+        }
+        Ok((self.sum != 0).then_some(Term { monomial: self.monomial, coeff: self.sum }))
+    }
+}
+
 /// Why a sum or a product is not made: an exponent is above 65,535, or the absolute values of the contributions to a monomial add up to more than 2^127 - 1.
 pub struct Fault;
 
@@ -33,7 +44,7 @@ pub fn share<M>(monomial: M, x: i128, y: i128, minus: bool) -> Share<M> {
 }
 
 #[inline]
-fn joined<M>(x: Share<M>, y: Share<M>) -> Share<M> {
+pub fn joined<M>(x: Share<M>, y: Share<M>) -> Share<M> {
     let weight = x.weight.saturating_add(y.weight);
     if weight > i128::MAX as u128 {
         return Share { monomial: x.monomial, sum: 0, weight: u128::MAX };
@@ -140,12 +151,7 @@ fn squeeze<M: Monomial>(first: Vec<Share<M>>, second: Vec<Share<M>>) -> Result<V
         let Some(share) = share else {
             return Ok(terms);
         };
-        if share.weight > i128::MAX as u128 {
-            return Err(Fault);
-        }
-        if share.sum != 0 {
-            terms.push(Term { monomial: share.monomial, coeff: share.sum });
-        }
+        terms.extend(share.term()?);
     }
 }
 
