@@ -11,6 +11,7 @@ use Rattle.std.specs.declared.cmp.Ordering.{Ordering}
 use Rattle.std.specs.declared.cmp.Ordering.TheVariants.{Less, Equal, Greater}
 use Rattle.std.specs.declared.option.Option.TheVariants.{None, Some}
 use Rattle.monomial.specs.Monomials.{exponent, monomial_times, too_high, IsBelow, IsPowers, IsMonomial, Divides, each_divides, lowered, without, IsProductOf}
+use Rattle.monomial.proofs.Total.{pair_same}
 
 -- the exponent at the first power, and at another
 pub exponent_here : (p : ℕ × ℕ) (ps : List (ℕ × ℕ)) (v : ℕ) → p.0 ≡ v → exponent (p ∷ ps) v ≡ p.1
@@ -109,9 +110,6 @@ tail_same a b xs ys e h i f v = either (eqb_tells a.0 v)
     either : ((a.0 == v ≡ true) × (a.0 ≡ v)) ⊎ ((a.0 == v ≡ false) × (a.0 ≢ v)) → exponent xs v ≡ exponent ys v
     either (inl (t, g)) = exponent_above a.0 xs v h (omega arith) ∙ sym (exponent_above b.0 ys v i (omega arith))
     either (inr (t, n)) = sym (exponent_there a xs v n) ∙ f v ∙ exponent_there b ys v (λ g. n (e ∙ g))
-
-pair_same : (a c b d : ℕ) → a ≡ c → b ≡ d → ◌≡◌ {A = ℕ × ℕ} (a, b) (c, d)
-pair_same a c b d e f = cc
 
 joined : (a b : ℕ × ℕ) (xs ys : List (ℕ × ℕ)) → a.0 ≡ b.0 → a.1 ≡ b.1 → xs ≡ ys → a ∷ xs ≡ b ∷ ys
 joined a b xs ys e f g = ap (λ p. p ∷ xs) (pair_same a.0 b.0 a.1 b.1 e f) ∙ ap (λ zs. b ∷ zs) g

@@ -1,5 +1,5 @@
 -- Terms with the same text are the same.
-use Rattle.std.specs.Prelude.{◌≡◌, ◌≢◌, ℕ, zero, suc, ◌^◌, ◌<◌, ◌≤◌, Bool, true, false, ◌||◌, not, ◌==◌, if◌then◌else◌, ℤ, pos, negsuc, unsigned_abs, List, [], ◌∷◌, ◌++◌, decimal, codes, refl}
+use Rattle.std.specs.Prelude.{◌≡◌, ◌≢◌, ℕ, ◌^◌, ◌<◌, ◌≤◌, Bool, true, false, ◌||◌, not, ◌==◌, if◌then◌else◌, ℤ, pos, negsuc, unsigned_abs, List, [], ◌∷◌, ◌++◌, decimal, codes, refl}
 use Rattle.std.proofs.Common.{sym, ◌∙◌, ap, subst, arith, append_assoc}
 use Rattle.std.proofs.lemmas.Bool.Decides.{nat_tests}
 use Rattle.std.specs.List.{AllByRecursion}
@@ -10,6 +10,7 @@ use Rattle.poly_text.specs.Text.{factor_text, more_factors, body_text, sign_text
 use Rattle.poly_text.specs.Form.{is_digit}
 use Rattle.poly_text.specs.Numbers.{number_from, IsFactorInRange, IsTermInRange, AreInRange}
 use Rattle.poly_text.proofs.Digits.{Lacks, Small, same_number, read_number}
+use Rattle.sparse_poly.proofs.PrimitiveParts.{some_size}
 
 -- a byte that goes on a number, a factor or a term
 abbrev pub goes_on : ℕ → Bool
@@ -265,11 +266,6 @@ same_text (t ∷ ts) (u ∷ us) s h e = same_first t u ts us t.coeff u.coeff ref
 
 -- ---- numbers in range
 
-pub some_abs : (z : ℤ) → z ≢ pos 0 → 0 < unsigned_abs z
-some_abs (pos zero) h = absurd (h refl)
-some_abs (pos (suc n)) h = omega arith
-some_abs (negsuc n) h = omega arith
-
 small_coeff : (n : ℕ) → n ≤ max_coeff → Small n
 small_coeff n h = omega arith
 
@@ -280,7 +276,7 @@ small_factors u (p ∷ ps) l h =
     ((omega arith, omega arith), small_factors u ps l h.1)
 
 pub small_body : (u : ℕ) (t : Term) → u ≤ 2 ^ 32 → IsTermInRange u t → IsSmallBody (unsigned_abs t.coeff) t.monomial
-small_body u t l h = record { some = some_abs t.coeff h.apart; small = small_coeff (unsigned_abs t.coeff) h.in_range; factors = small_factors u t.monomial l h.factors }
+small_body u t l h = record { some = some_size t.coeff h.apart; small = small_coeff (unsigned_abs t.coeff) h.in_range; factors = small_factors u t.monomial l h.factors }
 
 pub are_small : (u : ℕ) (ts : List Term) → u ≤ 2 ^ 32 → AreInRange u ts → AreSmall ts
 are_small u [] l h = tt

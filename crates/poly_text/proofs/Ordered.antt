@@ -3,8 +3,7 @@ use Rattle.std.specs.Prelude.{◌≡◌, ◌≢◌, ℕ, ◌+◌, ◌^◌, ◌<�
 use Rattle.std.proofs.Common.{sym, ◌∙◌, ap, arith}
 use Rattle.std.specs.List.{AllByRecursion}
 use Rattle.std.specs.Ordering.{is_lt}
-use Rattle.std.specs.declared.cmp.Ordering.{Ordering}
-use Rattle.std.specs.declared.cmp.Ordering.TheVariants.{Less, Equal, Greater}
+use Rattle.std.specs.declared.cmp.Ordering.TheVariants.{Less}
 use Rattle.monomial.specs.Monomials.{monomial_cmp, IsMonomial, IsPowers, IsBelow}
 use Rattle.sparse_poly.specs.declared.Term.{Term}
 use Rattle.sparse_poly.specs.Contributions.{IsPoly, IsFalling, max_coeff}
@@ -14,6 +13,7 @@ use Rattle.poly_text.specs.Numbers.{IsFactorInRange, AreInRange}
 use Rattle.poly_text.specs.Order.{product, is_below, first_factor, disorder, or_next, first_disorder}
 use Rattle.poly_text.specs.Disorder.{Disorder, TermAt, FactorAt}
 use Rattle.poly_text.proofs.Orders.{product_ordered}
+use Rattle.sparse_poly.proofs.InOrder.{less_from}
 
 -- ---- a polynomial is in order
 
@@ -55,11 +55,6 @@ first_none : (a b : Option Disorder) → or_next a b ≡ None → (a ≡ None) �
 first_none None b h = (refl, h)
 first_none (Some d) b h = absurd (cc)
 
-is_less : (o : Ordering) → is_lt o ≡ true → o ≡ Less
-is_less Less h = refl
-is_less Equal h = absurd (cc)
-is_less Greater h = absurd (cc)
-
 below_more : (v w : ℕ) (ps : List (ℕ × ℕ)) → v < w → IsBelow v ps → IsBelow w ps
 below_more v w [] l h = tt
 below_more v w (p ∷ ps) l h = let a = h.0 in (omega arith, below_more v w ps l h.1)
@@ -94,7 +89,7 @@ behind i t (u ∷ us) h =
     let o = first_none (disorder i (Some t.monomial) u) (first_disorder (i + 1) (Some u.monomial) us) h in
     let a = in_order i (Some t.monomial) u o.0 in
     let rest = behind (i + 1) u us o.1 in
-    let l : monomial_cmp u.monomial t.monomial ≡ Less = is_less (monomial_cmp u.monomial t.monomial) a.below in
+    let l : monomial_cmp u.monomial t.monomial ≡ Less = less_from (monomial_cmp u.monomial t.monomial) a.below in
     record { falling = ((l, all_through u.monomial t.monomial us l rest.falling.0), rest.falling); factors = (a.factors, rest.factors) }
 
 pub record AreOrdered (ts : List Term) : Type 0 where

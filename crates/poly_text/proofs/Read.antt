@@ -3,11 +3,11 @@ use Rattle.std.specs.Prelude.{◌≡◌, ℕ, zero, suc, ◌+◌, ◌<◌, ◌�
 use Rattle.std.proofs.Common.{sym, ◌∙◌, ap, subst, arith, append-nil}
 use Rattle.std.proofs.lemmas.List.{drop_all}
 use Rattle.std.specs.List.{AllByRecursion, list_all}
-use Rattle.std.specs.Ordering.{is_eq, ordering_reverse}
+use Rattle.std.specs.Ordering.{is_eq}
 use Rattle.std.specs.declared.cmp.Ordering.{Ordering}
 use Rattle.std.specs.declared.cmp.Ordering.TheVariants.{Less, Equal, Greater}
 use Rattle.monomial.specs.Monomials.{monomial_cmp, IsMonomial}
-use Rattle.monomial.proofs.Total.{monomial_cmp-IsTotalOrder, monomial_cmp-IsAntisymmetric}
+use Rattle.monomial.proofs.Total.{monomial_cmp-IsAntisymmetric}
 use Rattle.sparse_poly.specs.declared.Term.{Term}
 use Rattle.sparse_poly.specs.Polynomials.{weight}
 use Rattle.sparse_poly.specs.Contributions.{IsPoly, IsFalling, IsResult, IsFault, IsNoDegree, IsHeaviest, max_coeff}
@@ -19,13 +19,10 @@ use Rattle.poly_text.specs.Numbers.{IsFactorInRange, AreInRange}
 use Rattle.poly_text.specs.Raw.{raw}
 use Rattle.poly_text.specs.Reading.{uses_below}
 use Rattle.poly_text.specs.declared.raw.RawTerm.{RawTerm}
+use Rattle.sparse_poly.proofs.InOrder.{weight_above}
 
 pub one_result : (ts p : List Term) → IsPoly ts → IsResult ts p → p ≡ ts
 one_result ts p h r = same_polynomial p ts r.poly h r.sums
-
-weight_above : (m : List (ℕ × ℕ)) (ts : List Term) → AllByRecursion (λ (t : Term). monomial_cmp t.monomial m ≡ Less) ts → weight ts m ≡ 0
-weight_above m [] h = refl
-weight_above m (t ∷ ts) h = ap (λ b. (if b then unsigned_abs t.coeff else 0) + weight ts m) (ap is_eq (monomial_cmp-IsTotalOrder.antisymm m t.monomial ∙ ap ordering_reverse h.0)) ∙ ap (λ n. 0 + n) (weight_above m ts h.1)
 
 weight_falling : (m : List (ℕ × ℕ)) (ts : List Term) → IsFalling ts → AllByRecursion (λ (t : Term). unsigned_abs t.coeff ≤ max_coeff) ts → weight ts m ≤ max_coeff
 weight_falling m [] f h = omega arith

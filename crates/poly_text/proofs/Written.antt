@@ -12,8 +12,9 @@ use Rattle.poly_text.specs.Numbers.{number_from, after_digits, starts_number, in
 use Rattle.poly_text.specs.Fronts.{IsLive, IsAfterTerm}
 use Rattle.poly_text.specs.State.{State, Start, Signed, Zero, One, Coefficient, Times, Letter, VariableZero, Variable, Caret, FactorEnd, Exponent, Wrong}
 use Rattle.poly_text.proofs.Digits.{below_test, Small, Lacks, begins, read_number, read_rest}
-use Rattle.poly_text.proofs.Alone.{goes_on, continues, no_digit, is_equal, power_text, factor_shown, more_shown, factors_lack, is_written, body_written, body_bare, same_tail, some_abs}
+use Rattle.poly_text.proofs.Alone.{goes_on, continues, no_digit, is_equal, power_text, factor_shown, more_shown, factors_lack, is_written, body_written, body_bare, same_tail}
 use Rattle.poly_text.proofs.Fronts.{step, step_back, not_wrong, Keeps, keeps_coefficient, keeps_variable, keeps_exponent, before_digits, Alike, alike, after_end}
+use Rattle.sparse_poly.proofs.PrimitiveParts.{some_size}
 
 -- ---- numbers
 
@@ -175,7 +176,7 @@ body_live u n ps xs b some high h a = by (n == 1) refl (is_written n ps) refl ps
         subst (IsLive u Signed) (sym shown) (step_back u Signed 120 (decimal p.0 ++ (power_text p.1 ++ (more_factors qs ++ xs))) (factor_live u p (more_factors qs ++ xs) b k.0 (factors_lack qs xs (after_lacks u xs a)) (factors_live u qs xs b k.1 a)) refl)
 
 term_live : (u : ℕ) (t : Term) (xs : List ℕ) → u ≤ 2 ^ 32 → IsTermInRange u t → IsAfterTerm u xs → IsLive u Signed (body_text (unsigned_abs t.coeff) t.monomial ++ xs)
-term_live u t xs b h a = body_live u (unsigned_abs t.coeff) t.monomial xs b (some_abs t.coeff h.apart) h.in_range h.factors a
+term_live u t xs b h a = body_live u (unsigned_abs t.coeff) t.monomial xs b (some_size t.coeff h.apart) h.in_range h.factors a
 
 further_live : (u : ℕ) (z : ℤ) (bs xs : List ℕ) → IsLive u Signed (bs ++ xs) → IsAfterTerm u ((sign_text (codes "+") z ++ bs) ++ xs)
 further_live u (pos n) bs xs h = (refl, h)

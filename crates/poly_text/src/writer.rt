@@ -1,10 +1,11 @@
 //! The writer.
 
 ghost use Rattle.std.specs.Prelude.{◌≡◌, ◌<◌, ◌++◌, OnOk, OnErr, decimal, codes, [], ◌==◌, if◌then◌else◌, drop, length};
+ghost use Rattle.monomial.specs.Readings.{left_powers};
 ghost use Rattle.poly_text.specs.Text.{factor_text, more_factors, body_text, sign_text, term_text, more_terms, poly_text};
 
 use itoa::{Buffer, Integer};
-use monomial::Monomial;
+use monomial::{Monomial, PowersLeft};
 use sparse_poly::{Poly, Term};
 use std::alloc::AllocError;
 
@@ -34,17 +35,14 @@ fn push_factor(variable: u32, exponent: u16, into: &mut Vec<u8>) -> Result<(), A
     Ok(())
 }
 
-// The factors of a monomial behind its first.
-fn push_more_factors(monomial: &Monomial, into: &mut Vec<u8>) -> Result<(), AllocError>
-    requires { 0 < length monomial.now }
-    ensures { OnOk result (into.new.items ≡ into.old.items ++ more_factors (drop 1 monomial.now)) }
+// The factors that are left, each behind its sign.
+fn push_more_factors(powers: PowersLeft<'_>, into: &mut Vec<u8>) -> Result<(), AllocError>
+    ensures { OnOk result (into.new.items ≡ into.old.items ++ more_factors (left_powers powers.entry)) }
 {
-    let mut place = 1;
-    'factors: while place < monomial.len() {
-        let power = monomial.power_at(place);
+    let mut powers = powers;
+    'factors: while let Some((variable, exponent)) = powers.next() {
         push_text(b"*", into)?;
-        push_factor(power.0, power.1, into)?;
-        place += 1;
+        push_factor(variable, exponent, into)?;
     }
     Ok(())
 }
@@ -62,13 +60,13 @@ fn push_size(n: u128, into: &mut Vec<u8>) -> Result<(), AllocError>
 fn push_body(n: u128, monomial: &Monomial, into: &mut Vec<u8>) -> Result<(), AllocError>
     ensures { OnOk result (into.new.items ≡ into.old.items ++ body_text n monomial.now) }
 {
-    if monomial.len() == 0 {
+    let mut powers = monomial.powers();
+    let Some((variable, exponent)) = powers.next() else {
         return push_number(n, into);
-    }
-    let first = monomial.power_at(0);
+    };
     push_size(n, into)?;
-    push_factor(first.0, first.1, into)?;
-    push_more_factors(monomial, into)
+    push_factor(variable, exponent, into)?;
+    push_more_factors(powers, into)
 }
 
 fn push_sign(plus: &[u8], coeff: i128, into: &mut Vec<u8>) -> Result<(), AllocError>

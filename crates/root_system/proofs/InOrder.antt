@@ -13,14 +13,10 @@ use Rattle.sparse_poly.specs.declared.Term.{Term}
 use Rattle.sparse_poly.specs.Order.{poly_cmp}
 use Rattle.sparse_poly.proofs.Total.{poly_cmp-IsTotalOrder, poly_cmp-IsAntisymmetric}
 use Rattle.root_system.specs.Ascending.{same_poly}
+use Rattle.sparse_poly.proofs.Evaluation.{tied}
 
 same_poly-IsEquivalence : IsEquivalence same_poly
 same_poly-IsEquivalence = eq_by_cmp_equiv poly_cmp-IsTotalOrder
-
-tied : (o : Ordering) → is_eq o ≡ true → o ≡ Equal
-tied Less e = absurd (cc e)
-tied Equal e = refl
-tied Greater e = absurd (cc e)
 
 pub strictly_sorted : (sorted ps : List (List Term)) → IsSorted poly_cmp sorted → ps ≡ dedup same_poly sorted → IsStrictlySortedBy poly_cmp ps
 strictly_sorted sorted ps s e = rw e (IsStrictlySortedBy-dedup poly_cmp-IsTotalOrder (λ x y. refl) sorted s)

@@ -10,6 +10,7 @@ use Rattle.monomial.specs.Monomials.{too_high}
 use Rattle.sparse_poly.specs.declared.Term.{Term}
 use Rattle.sparse_poly.specs.Polynomials.{row, products, negated, term_times}
 use Rattle.sparse_poly.specs.Contributions.{signed_row, signed_products, higher, degree_of}
+use Rattle.std.proofs.lemmas.List.{append-nil}
 
 pub higher-None : (o : Option ℕ) → higher o None ≡ o
 higher-None None = refl
@@ -27,10 +28,6 @@ higher-assoc (Some u) (Some v) (Some w) = ap Some (greatest u v w)
 pub degree_of-append : (cs ds : List Term) → degree_of (cs ++ ds) ≡ higher (degree_of cs) (degree_of ds)
 degree_of-append [] ds = refl
 degree_of-append (c ∷ cs) ds = ap (λ o. higher (too_high c.monomial) o) (degree_of-append cs ds) ∙ sym (higher-assoc (too_high c.monomial) (degree_of cs) (degree_of ds))
-
-append_end : (xs : List Term) → xs ++ [] ≡ xs
-append_end [] = refl
-append_end (x ∷ xs) = ap (λ r. x ∷ r) (append_end xs)
 
 pub none_before : (a b : Option ℕ) → higher a b ≡ None → a ≡ None
 none_before None b e = refl
@@ -58,8 +55,8 @@ signed_products-append false ts us vs = products-append ts us vs
 signed_products-append true ts us vs = ap negated (products-append ts us vs) ∙ negated-append (products ts vs) (products us vs)
 
 pub signed_products-one : (b : Bool) (t : Term) (vs : List Term) → signed_products b (t ∷ []) vs ≡ signed_row b t vs
-signed_products-one false t vs = append_end (row t vs)
-signed_products-one true t vs = ap negated (append_end (row t vs))
+signed_products-one false t vs = append-nil (row t vs)
+signed_products-one true t vs = ap negated (append-nil (row t vs))
 
 pub take_one : (xs : List Term) (k : ℕ) (x : Term) → k < length xs → x ≡ slice_index_or xs k x → take (k + 1) xs ≡ take k xs ++ x ∷ []
 take_one xs k x h e = ap (λ n. take n xs) (add-one k) ∙ take-suc xs k x h ∙ ap (λ y. take k xs ++ y ∷ []) (sym e)

@@ -6,7 +6,7 @@ use Rattle.std.proofs.Common.{arith, sym, ◌∙◌, ap, subst}
 use Rattle.std.proofs.lemmas.Int.{ints, unsigned_abs-mul, quot-rem, rem_below}
 use Rattle.std.proofs.Math.IntN.{*ℤ-zero, *ℤ_comm, pos-*ℤ-negsuc, negsuc-*ℤ-negsuc}
 use Rattle.std.proofs.Math.Nat.{div-add-mod', mul-dvd-mul_right, eq-zero_of_zero-dvd}
-use Rattle.std.proofs.lemmas.Nat.Gcd.{dvd_trans, le_of_dvd, mod-eq-zero_of_dvd}
+use Rattle.std.proofs.lemmas.Nat.Gcd.{le_of_dvd, mod-eq-zero_of_dvd}
 use Rattle.std.specs.Int.{IsGcd}
 use Rattle.std.specs.List.{AllByRecursion}
 use Rattle.std.specs.declared.option.Option.TheVariants.{Some}
@@ -23,11 +23,7 @@ use Rattle.sparse_poly.specs.Factors.{IsCommonDivisor, HasLeadingSign, IsSignedS
 use Rattle.sparse_poly.proofs.Adding.{take_one}
 use Rattle.sparse_poly.proofs.Descending.{all_more}
 use Rattle.sparse_poly.proofs.Total.{same_term}
-
-some_size : (z : ℤ) → z ≢ pos 0 → 0 < unsigned_abs z
-some_size (pos zero) n = absurd (n refl)
-some_size (pos (suc m)) n = omega arith
-some_size (negsuc m) n = omega arith
+use Rattle.sparse_poly.proofs.PrimitiveParts.{some_size, all_weaker, swap}
 
 -- what has a divisor's multiples between it and a smaller one
 nothing_between : (d y : ℕ) → d * y < d → y ≡ 0
@@ -94,10 +90,6 @@ factor_small d y a n e = least (unsigned_abs d) (unsigned_abs y) (unsigned_abs a
     least (suc d) y a l e = omega (arith, e)
 
 -- common divisors
-dvd_all : (d e : ℕ) (ts : List Term) → d ∣ e → DividesAll e ts → DividesAll d ts
-dvd_all d e [] h a = tt
-dvd_all d e (t ∷ ts) h a = (dvd_trans d h a.0, dvd_all d e ts h a.1)
-
 front_all : (d : ℕ) (ts us : List Term) → DividesAll d (ts ++ us) → DividesAll d ts
 front_all d [] us h = tt
 front_all d (t ∷ ts) us h = (h.0, front_all d ts us h.1)
@@ -110,7 +102,7 @@ pub IsCommonDivisor-more : (ts : List Term) (k : ℕ) (t : Term) (g n h : ℕ) �
 IsCommonDivisor-more ts k t g n h l e c s i =
     let longer : take (k + 1) ts ≡ take k ts ++ t ∷ [] = take_one ts k t l e in
     subst (λ us. IsCommonDivisor us h) (sym longer) (record {
-      divides = all_more (λ (u : Term). h ∣ unsigned_abs u.coeff) (take k ts) t (dvd_all h g (take k ts) i.0 c.divides) (subst (λ m. h ∣ m) s i.1);
+      divides = all_more (λ (u : Term). h ∣ unsigned_abs u.coeff) (take k ts) t (all_weaker h g (take k ts) i.0 c.divides) (subst (λ m. h ∣ m) s i.1);
       greatest = λ d a. i.2 d (c.greatest d (front_all d (take k ts) (t ∷ []) a)) (subst (λ m. d ∣ m) (sym s) (last_all d (take k ts) t a));
     })
 
@@ -210,9 +202,6 @@ divides_multiples : (d : ℕ) (t : Term) (us : List Term) → DividesAll d us �
 divides_multiples d t [] h = tt
 divides_multiples d t (u ∷ us) h =
     (subst (λ n. d * unsigned_abs t.coeff ∣ n) (swap (unsigned_abs u.coeff) (unsigned_abs t.coeff) ∙ sym (unsigned_abs-mul t.coeff u.coeff)) (mul-dvd-mul_right d h.0 (unsigned_abs t.coeff)), divides_multiples d t us h.1)
-  where
-    swap : (a b : ℕ) → a * b ≡ b * a
-    swap a b = omega arith
 
 one_left : (d n : ℕ) → 0 < n → d * n ∣ n → d ≡ 1
 one_left zero n l h = absurd (omega (arith, l, eq-zero_of_zero-dvd (subst (λ k. k ∣ n) (none n) h)))

@@ -15,7 +15,7 @@ use Rattle.monomial.proofs.Total.{monomial_cmp-IsAntisymmetric, monomial_cmp-IsT
 use Rattle.sparse_poly.specs.declared.Term.{Term}
 use Rattle.sparse_poly.specs.Polynomials.{is_of, coefficient, weight, row, products, negated, scaled, monomial_value, term_value, eval}
 
-tied : (o : Ordering) → is_eq o ≡ true → o ≡ Equal
+pub tied : (o : Ordering) → is_eq o ≡ true → o ≡ Equal
 tied Less e = absurd (cc e)
 tied Equal e = refl
 tied Greater e = absurd (cc e)

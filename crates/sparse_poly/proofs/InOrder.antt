@@ -32,7 +32,7 @@ IsPoly-more t ts apart small monomial above p = record {
   in_range = (small, p.in_range);
 }
 
-less_from : (o : Ordering) → is_lt o ≡ true → o ≡ Less
+pub less_from : (o : Ordering) → is_lt o ≡ true → o ≡ Less
 less_from Less e = refl
 less_from Equal e = absurd (cc e)
 less_from Greater e = absurd (cc e)
@@ -44,7 +44,7 @@ IsPoly-before t u (x ∷ xs) b l e f apart small m h p =
     IsPoly-more t (x ∷ xs) apart small m (ap (λ (y : Term). monomial_cmp y.monomial t.monomial) (sym e) ∙ less_from _ (sym f ∙ h)) p
 
 -- each monomial stands in one term at most
-weight_above : (m : List (ℕ × ℕ)) (ts : List Term) → AllByRecursion (λ (t : Term). monomial_cmp t.monomial m ≡ Less) ts → weight ts m ≡ 0
+pub weight_above : (m : List (ℕ × ℕ)) (ts : List Term) → AllByRecursion (λ (t : Term). monomial_cmp t.monomial m ≡ Less) ts → weight ts m ≡ 0
 weight_above m [] h = refl
 weight_above m (t ∷ ts) h =
     ap (λ b. (if b then unsigned_abs t.coeff else 0) + weight ts m) (ap is_eq (monomial_cmp-IsTotalOrder.antisymm m t.monomial ∙ ap ordering_reverse h.0)) ∙ none_more (weight ts m) ∙ weight_above m ts h.1

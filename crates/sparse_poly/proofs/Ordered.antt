@@ -3,7 +3,6 @@ use Rattle.std.specs.Prelude.{◌≡◌, ◌≢◌, ℕ, ◌<◌, ◌≤◌, Lis
 use Rattle.std.proofs.Common.{arith, sym, ◌∙◌, ap, subst}
 use Rattle.std.specs.List.{AllByRecursion}
 use Rattle.std.proofs.lemmas.Bool.Decides.{nat_tests}
-use Rattle.std.specs.declared.option.Option.{Option}
 use Rattle.std.specs.declared.option.Option.TheVariants.{None, Some}
 use Rattle.std.specs.declared.cmp.Ordering.{Ordering}
 use Rattle.std.specs.declared.cmp.Ordering.TheVariants.{Less, Equal, Greater}
@@ -14,6 +13,7 @@ use Rattle.sparse_poly.specs.declared.Term.{Term}
 use Rattle.sparse_poly.specs.Polynomials.{constant}
 use Rattle.sparse_poly.specs.Contributions.{higher, IsFalling, IsPoly}
 use Rattle.sparse_poly.specs.Reads.{main_variable}
+use Rattle.sparse_poly.proofs.Adding.{higher-None, higher-assoc}
 
 -- a lower monomial has no greater variable
 no_higher : (m n : List (ℕ × ℕ)) → monomial_cmp n m ≡ Less → higher (top m) (top n) ≡ top m
@@ -31,22 +31,9 @@ no_higher (p ∷ ps) (q ∷ qs) e = first (nat_cmp q.0 p.0) (ranked q.0 p.0 (nat
     first Greater m e = absurd (cc e)
 
 higher_all : (t : Term) (ts : List Term) → AllByRecursion (λ (u : Term). monomial_cmp u.monomial t.monomial ≡ Less) ts → higher (top t.monomial) (main_variable ts) ≡ top t.monomial
-higher_all t [] h = none (top t.monomial)
-  where
-    none : (o : Option ℕ) → higher o None ≡ o
-    none None = refl
-    none (Some v) = refl
+higher_all t [] h = higher-None (top t.monomial)
 higher_all t (u ∷ us) h =
-    sym (assoc (top t.monomial) (top u.monomial) (main_variable us)) ∙ ap (λ o. higher o (main_variable us)) (no_higher t.monomial u.monomial h.0) ∙ higher_all t us h.1
-  where
-    greatest : (u v w : ℕ) → (if nat_lt (if nat_lt u v then v else u) w then w else (if nat_lt u v then v else u)) ≡ (if nat_lt u (if nat_lt v w then w else v) then (if nat_lt v w then w else v) else u)
-    greatest u v w = grind (arith, nat_tests)
-
-    assoc : (a b c : Option ℕ) → higher (higher a b) c ≡ higher a (higher b c)
-    assoc None b c = refl
-    assoc (Some u) None c = refl
-    assoc (Some u) (Some v) None = refl
-    assoc (Some u) (Some v) (Some w) = ap Some (greatest u v w)
+    sym (higher-assoc (top t.monomial) (top u.monomial) (main_variable us)) ∙ ap (λ o. higher o (main_variable us)) (no_higher t.monomial u.monomial h.0) ∙ higher_all t us h.1
 
 -- the greatest variable is that of the leading term
 pub main_variable-leading : (t : Term) (ts : List Term) → IsFalling (t ∷ ts) → main_variable (t ∷ ts) ≡ top t.monomial

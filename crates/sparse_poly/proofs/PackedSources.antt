@@ -20,6 +20,7 @@ use Rattle.sparse_poly.proofs.Packings.{weight_of, sum_of, joined_words}
 use Rattle.sparse_poly.proofs.Squeezes.{IsTakenFrom}
 use Rattle.sparse_poly.proofs.Standings.{agree_plus, agree_through, same_agrees}
 use Rattle.sparse_poly.proofs.Sums.{ssum-append, sweight-append}
+use Rattle.std.proofs.lemmas.List.{append-nil}
 
 pub shares_read-append : (r : Reading) (xs ys : List PackedShare) → shares_read r (xs ++ ys) ≡ shares_read r xs ++ shares_read r ys
 shares_read-append r [] ys = refl
@@ -237,12 +238,8 @@ Collecting-more xs old new done s g h = record {
   above = all_more (λ (o : PackedShare). AllUnder o.word (share_words new)) done s (all_map (λ (o : PackedShare). AllUnder o.word (share_words old)) (λ (o : PackedShare). AllUnder o.word (share_words new)) done (λ o u. (h.same.under o.word u).1) g.above) h.below;
 }
 
-append_end : (xs : List PackedShare) → xs ++ [] ≡ xs
-append_end [] = refl
-append_end (x ∷ xs) = ap (λ r. x ∷ r) (append_end xs)
-
 pub Collecting-same : (xs us done : List PackedShare) → Collecting xs us done → us ≡ [] → IsSameInFewer done xs
-Collecting-same xs us done g e = subst (λ ss. IsSameInFewer ss xs) (ap (λ vs. done ++ vs) e ∙ append_end done) g.same
+Collecting-same xs us done g e = subst (λ ss. IsSameInFewer ss xs) (ap (λ vs. done ++ vs) e ∙ append-nil done) g.same
 
 pub Collecting-falls : (xs us done : List PackedShare) → Collecting xs us done → AreFalling (share_words done)
 Collecting-falls xs us done g = g.falling

@@ -3,7 +3,7 @@ use Rattle.std.specs.Prelude.{zero, suc, ◌≡◌, ◌<◌, ◌≤◌, ℕ, ◌
 use mathlib.Core.Logic.{◌⊎◌, inl, inr}
 use Rattle.std.proofs.Common.{arith, sym, ◌∙◌, ap, subst, append_assoc}
 use Rattle.std.proofs.lemmas.Int.{ints}
-use Rattle.std.proofs.lemmas.List.{take-append-drop}
+use Rattle.std.proofs.lemmas.List.{take-append-drop, append-nil}
 use Rattle.std.proofs.lemmas.Slice.{between_to_end}
 use Rattle.std.specs.Coded.{le_prop}
 use Rattle.std.specs.Ordering.{is_eq}
@@ -61,13 +61,9 @@ merge_only xs = record {
     plain_sum : (a : ℤ) → a ≡ a +ℤ pos 0
     plain_sum a = omega (arith, ints)
 
-pub append_end : (xs : List PackedShare) → xs ++ [] ≡ xs
-append_end [] = refl
-append_end (x ∷ xs) = ap (λ r. x ∷ r) (append_end xs)
-
 pub merge_rest : (xs ys : List PackedShare) → (xs ≡ []) ⊎ (ys ≡ []) → IsPackedMerge xs ys (xs ++ ys)
 merge_rest xs ys (inl e) = subst (λ us. IsPackedMerge us ys (us ++ ys)) (sym e) (merge_none ys)
-merge_rest xs ys (inr e) = subst (λ us. IsPackedMerge xs us (xs ++ us)) (sym e) (subst (IsPackedMerge xs []) (sym (append_end xs)) (merge_only xs))
+merge_rest xs ys (inr e) = subst (λ us. IsPackedMerge xs us (xs ++ us)) (sym e) (subst (IsPackedMerge xs []) (sym (append-nil xs)) (merge_only xs))
 
 pub under_more : (n k : ℕ) (ws : List ℕ) → n ≤ k → AllUnder n ws → AllUnder k ws
 under_more n k ws l h = all_map (λ w. w < n) (λ w. w < k) ws (λ w g. omega arith) h

@@ -20,7 +20,7 @@ pub content : List Term → ℕ
 content [] = 0
 content (t ∷ ts) = gcd (unsigned_abs t.coeff) (content ts)
 
-all_weaker : (d e : ℕ) (ts : List Term) → d ∣ e → DividesAll e ts → DividesAll d ts
+pub all_weaker : (d e : ℕ) (ts : List Term) → d ∣ e → DividesAll e ts → DividesAll d ts
 all_weaker d e [] h a = tt
 all_weaker d e (t ∷ ts) h a = (dvd_trans d h a.0, all_weaker d e ts h a.1)
 
@@ -47,7 +47,7 @@ primitive_divides d c t ts h a =
 positive : (a b : ℕ) → 0 < a → 0 < b → 0 < a * b
 positive a b h i = mul-pos h i
 
-swap : (a b : ℕ) → a * b ≡ b * a
+pub swap : (a b : ℕ) → a * b ≡ b * a
 swap a b = omega arith
 
 first_same : (k j : ℤ) (a b : Term) (as' bs : List Term) → scaled k (a ∷ as') ≡ scaled j (b ∷ bs) → (a.monomial ≡ b.monomial) × (k *ℤ a.coeff ≡ j *ℤ b.coeff) × (scaled k as' ≡ scaled j bs)
@@ -88,24 +88,24 @@ same_sign (negsuc m) (pos n) (pos a) (pos b) h i e f =
 same_sign (negsuc m) (pos n) (negsuc a) b h i e f = absurd (omega (arith, ints, h))
 same_sign (negsuc m) (pos n) (pos a) (negsuc b) h i e f = absurd (omega (arith, ints, i))
 
+pub some_size : (z : ℤ) → z ≢ pos 0 → 0 < unsigned_abs z
+some_size (pos zero) n = absurd (n refl)
+some_size (pos (suc m)) n = omega arith
+some_size (negsuc m) n = omega arith
+
 -- what is nonzero cancels
 pub cancel_factor : (k a b : ℤ) → k ≢ pos 0 → k *ℤ a ≡ k *ℤ b → a ≡ b
 cancel_factor k a b n e =
     let split : k *ℤ b ≡ (k *ℤ (a +ℤ neg_ℤ b)) +ℤ (k *ℤ b) = sym e ∙ ap (λ z. k *ℤ z) (apart a b) ∙ *ℤ-+ℤ k (a +ℤ neg_ℤ b) b in
     let zero_product : k *ℤ (a +ℤ neg_ℤ b) ≡ pos 0 = none _ _ split in
     let sizes_are : unsigned_abs k * unsigned_abs (a +ℤ neg_ℤ b) ≡ 0 = sym (unsigned_abs-mul k (a +ℤ neg_ℤ b)) ∙ ap unsigned_abs zero_product in
-    same (nothing (unsigned_abs k) (unsigned_abs (a +ℤ neg_ℤ b)) (some k n) sizes_are)
+    same (nothing (unsigned_abs k) (unsigned_abs (a +ℤ neg_ℤ b)) (some_size k n) sizes_are)
   where
     apart : (x y : ℤ) → x ≡ (x +ℤ neg_ℤ y) +ℤ y
     apart x y = omega (arith, ints)
 
     none : (x y : ℤ) → y ≡ x +ℤ y → x ≡ pos 0
     none x y e = omega (arith, ints)
-
-    some : (z : ℤ) → z ≢ pos 0 → 0 < unsigned_abs z
-    some (pos zero) n = absurd (n refl)
-    some (pos (suc m)) n = omega arith
-    some (negsuc m) n = omega arith
 
     nothing : (x y : ℕ) → 0 < x → x * y ≡ 0 → y ≡ 0
     nothing x zero l e = refl

@@ -16,10 +16,11 @@ use Rattle.sparse_poly.specs.declared.multiplying.Row.{Row}
 use mathlib.Core.Logic.{◌⊎◌, inl, inr}
 use Rattle.sparse_poly.specs.Contributions.{signed, kept, signed_row, signed_products, higher, degree_of, IsFalling}
 use Rattle.sparse_poly.specs.Standing.{Agree, Stands, AllBelow, AllMonomials, IsDescending, IsTaken, IsNext, IsMerged, share_at, unless_high, product_shares, left_shares, left_degree, row_share, IsMade, ssum, sweight}
-use Rattle.sparse_poly.proofs.Adding.{none_before, degree_of-append, higher-assoc, signed_products-append, signed_products-one}
+use Rattle.sparse_poly.proofs.Adding.{none_before, degree_of-append, higher-assoc, signed_products-append, signed_products-one, higher-None}
 use Rattle.sparse_poly.proofs.Descending.{below_more}
 use Rattle.sparse_poly.proofs.Merges.{IsNext-first, IsNext-second, IsNext-both, Merging, Merging-start, Merging-more, Merging-end}
 use Rattle.sparse_poly.proofs.Standings.{agree_kept, agree_through, same_agrees, Stands-both, Stands-append, Stands-one}
+use Rattle.std.proofs.lemmas.List.{append-nil}
 
 -- the contribution of two terms
 abbrev contribution : Bool → Term → Term → Term
@@ -38,15 +39,11 @@ none_after None b e = e
 none_after (Some u) None e = refl
 none_after (Some u) (Some v) e = absurd (cc e)
 
-higher_end : (o : Option ℕ) → higher o None ≡ o
-higher_end None = refl
-higher_end (Some v) = refl
-
 greater_same : (u v : ℕ) → (if nat_lt u v then v else u) ≡ (if nat_lt v u then u else v)
 greater_same u v = grind (arith, nat_tests)
 
 higher-comm : (a b : Option ℕ) → higher a b ≡ higher b a
-higher-comm None b = sym (higher_end b)
+higher-comm None b = sym (higher-None b)
 higher-comm (Some u) None = refl
 higher-comm (Some u) (Some v) = ap Some (greater_same u v)
 
@@ -125,10 +122,6 @@ same_share m n y z v w h k e f g =
 pub is_share_at : (s : Share) (m : List (ℕ × ℕ)) (z : ℤ) → s.monomial ≡ m → s.sum ≡ kept z → s.weight ≡ unsigned_abs (kept z) → s ≡ share_at m z
 unfolding share_from
 is_share_at s m z e f g = same_share s.monomial m s.sum (kept z) s.weight (unsigned_abs (kept z)) s.within (le_refl (unsigned_abs (kept z))) e f g
-
-append_nil : (xs : List Share) → xs ++ [] ≡ xs
-append_nil [] = refl
-append_nil (x ∷ xs) = ap (λ ys. x ∷ ys) (append_nil xs)
 
 IsTaken-turned : (xs ys us vs : List Share) (s : Share) → IsTaken xs ys us vs s → IsTaken ys xs vs us s
 IsTaken-turned xs ys us vs s t = record {
@@ -215,7 +208,7 @@ ArePaired-start xs ys d e going waiting next old now s f g h i m = record {
 pub IsAlone-start : (xs ys : List Share) (d e : Option ℕ) (going waiting next : Row) (old now : Option ℕ) → left_shares going ≡ xs → left_degree going ≡ d → left_shares waiting ≡ ys → left_degree waiting ≡ e → IsMade waiting next old now None → IsAlone xs ys (higher (higher old d) e) now (left_shares going) (left_degree going) []
 IsAlone-start xs ys d e going waiting next old now f g h i m = record {
   merging = subst (λ zs. EitherWay zs ys (left_shares going) [] []) f (subst (λ zs. EitherWay (left_shares going) zs (left_shares going) [] []) (sym m.shares ∙ h) (either_start (left_shares going) []));
-  noted = ap (λ o. higher o (left_degree going)) (sym (higher_end now) ∙ m.degree ∙ ap (higher old) i) ∙ higher_swap old e (left_degree going) ∙ ap (λ o. higher (higher old o) e) g;
+  noted = ap (λ o. higher o (left_degree going)) (sym (higher-None now) ∙ m.degree ∙ ap (higher old) i) ∙ higher_swap old e (left_degree going) ∙ ap (λ o. higher (higher old o) e) g;
 }
 
 module _ (xs ys : List Share) (total now new : Option ℕ) (going waiting next : Row) (held : Share) (ss : List Share) (p : ArePaired xs ys total now going waiting held ss) where
@@ -243,18 +236,18 @@ module _ (xs ys : List Share) (total now new : Option ℕ) (going waiting next :
   pub IsAlone-equal : (s z : Share) (left : Row) (after : Option ℕ) → IsMade going next now new (Some s) → s.monomial ≡ held.monomial → z.monomial ≡ s.monomial → Agree z.weight z.sum (s.weight + held.weight) (s.sum +ℤ held.sum) → IsMade waiting left new after None → IsAlone xs ys total after (left_shares next) (left_degree next) (ss ++ z ∷ [])
   IsAlone-equal s z left after m e f a n = record {
     merging = subst (λ zs. EitherWay xs ys (left_shares next) zs (ss ++ z ∷ [])) n.shares (joined_lists s z m e f a);
-    noted = ap (λ d. higher d (left_degree next)) (sym (higher_end after) ∙ n.degree) ∙ higher_swap new (left_degree waiting) (left_degree next) ∙ ap (λ d. higher d (left_degree waiting)) m.degree ∙ p.degree;
+    noted = ap (λ d. higher d (left_degree next)) (sym (higher-None after) ∙ n.degree) ∙ higher_swap new (left_degree waiting) (left_degree next) ∙ ap (λ d. higher d (left_degree waiting)) m.degree ∙ p.degree;
   }
 
   pub IsAlone-ended : IsMade going next now new None → IsAlone xs ys total new (left_shares waiting) (left_degree waiting) (ss ++ held ∷ [])
   IsAlone-ended m = record {
     merging = either_turned xs ys _ _ _ (either_more xs ys _ _ [] (left_shares waiting) ss held (subst (λ zs. EitherWay xs ys zs (held ∷ left_shares waiting) ss) m.shares p.merging) (IsNext-second _ _ _ held refl (λ d. tt)));
-    noted = ap (λ d. higher d (left_degree waiting)) (sym (higher_end new) ∙ m.degree) ∙ p.degree;
+    noted = ap (λ d. higher d (left_degree waiting)) (sym (higher-None new) ∙ m.degree) ∙ p.degree;
   }
 
 -- what is left of one row is added
 alone_all : (xs ys left ss : List Share) → EitherWay xs ys left [] ss → IsMerged xs ys (ss ++ left)
-alone_all xs ys [] ss m = rw (append_nil ss) (either_end xs ys ss m)
+alone_all xs ys [] ss m = rw (append-nil ss) (either_end xs ys ss m)
 alone_all xs ys (s ∷ left) ss m = rw (← append_assoc ss (s ∷ []) left) (alone_all xs ys left (ss ++ s ∷ []) (either_more xs ys (s ∷ left) [] left [] ss s m (IsNext-first _ _ _ s refl (λ d. tt))))
 
 pub none_made : (old new : Row) (before now : Option ℕ) (o : Option (List (ℕ × ℕ))) → IsMade old new before now (option_map (row_share new) o) → ((m : List (ℕ × ℕ)) → o ≡ Some m → ⊥) → IsMade old new before now None

@@ -5,7 +5,7 @@ use Rattle.std.proofs.Common.{arith, sym, ◌∙◌, ap, subst}
 use Rattle.std.proofs.lemmas.Int.{ints}
 use Rattle.std.specs.List.{AllByRecursion}
 use Rattle.std.specs.declared.option.Option.{Option}
-use Rattle.std.specs.declared.option.Option.TheVariants.{None, Some}
+use Rattle.std.specs.declared.option.Option.TheVariants.{None}
 use Rattle.monomial.specs.Monomials.{IsMonomial}
 use Rattle.monomial.proofs.Exponents.{too_high-IsMonomial}
 use Rattle.sparse_poly.specs.declared.Term.{Term}
@@ -15,7 +15,7 @@ use Rattle.sparse_poly.specs.declared.PolyFault.TheVariants.{Degree, Heavy, OutO
 use Rattle.sparse_poly.specs.Polynomials.{coefficient, weight, row}
 use Rattle.sparse_poly.specs.Contributions.{higher, degree_of, IsFalling, IsNoDegree}
 use Rattle.sparse_poly.specs.Standing.{ssum, sweight, Agree, Stands, IsDescending, AllMonomials, IsHeavyFault, IsMerged}
-use Rattle.sparse_poly.proofs.Adding.{degree_of-append}
+use Rattle.sparse_poly.proofs.Adding.{degree_of-append, higher-None}
 use Rattle.sparse_poly.proofs.Evaluation.{coefficient-append, weight-append}
 use Rattle.sparse_poly.proofs.Sums.{ssum-append, sweight-append}
 use Rattle.sparse_poly.proofs.Standings.{agree_plus, agree_through, same_agrees, Stands-one}
@@ -48,7 +48,7 @@ Gathered-more cs rest left ss zs t s g e f i a h = record {
       (same_agrees _ _ _ _ (ap (λ n. sweight ss m + n) (sym (ap (λ xs. weight xs m) e ∙ weight-append m left (t ∷ []))))
       (ap (λ n. ssum ss m +ℤ n) (sym (ap (λ xs. coefficient xs m) e ∙ coefficient-append m left (t ∷ [])))))
       (g.sums m)));
-  degree = g.degree ∙ ap degree_of e ∙ degree_of-append left (t ∷ []) ∙ ap (λ o. higher (degree_of left) (higher o None)) (too_high-IsMonomial t.monomial h) ∙ none_right (degree_of left);
+  degree = g.degree ∙ ap degree_of e ∙ degree_of-append left (t ∷ []) ∙ ap (λ o. higher (degree_of left) (higher o None)) (too_high-IsMonomial t.monomial h) ∙ higher-None (degree_of left);
 }
   where
     turned : (a b c : ℕ) → (a + b) + c ≡ a + (c + b)
@@ -56,10 +56,6 @@ Gathered-more cs rest left ss zs t s g e f i a h = record {
 
     turned_sum : (a b c : ℤ) → (a +ℤ b) +ℤ c ≡ a +ℤ (c +ℤ b)
     turned_sum a b c = omega (arith, ints)
-
-    none_right : (o : Option ℕ) → higher o None ≡ o
-    none_right None = refl
-    none_right (Some v) = refl
 
 pub Gathered-end : (cs rest : List Term) (ss : List Share) → Gathered cs rest ss → rest ≡ [] → Stands ss cs × (degree_of cs ≡ None)
 Gathered-end cs rest ss g e = (λ m. agree_through _ _ _ _ _ _ (same_agrees _ _ _ _ (plain (sweight ss m) ∙ ap (λ xs. sweight ss m + weight xs m) (sym e)) (plain_sum (ssum ss m) ∙ ap (λ xs. ssum ss m +ℤ coefficient xs m) (sym e))) (g.sums m), g.degree ∙ ap degree_of e)

@@ -7,8 +7,7 @@ use Rattle.std.specs.Int.{w128}
 use Rattle.std.specs.List.{AllByRecursion}
 use Rattle.std.specs.Ordering.{is_eq, ordering_reverse}
 use Rattle.std.specs.Cmp.{tied_itself}
-use Rattle.std.specs.declared.cmp.Ordering.{Ordering}
-use Rattle.std.specs.declared.cmp.Ordering.TheVariants.{Less, Equal, Greater}
+use Rattle.std.specs.declared.cmp.Ordering.TheVariants.{Less}
 use Rattle.monomial.specs.Monomials.{monomial_cmp, IsMonomial}
 use Rattle.monomial.proofs.Total.{monomial_cmp-IsAntisymmetric, monomial_cmp-IsTotalOrder}
 use Rattle.sparse_poly.specs.declared.Term.{Term}
@@ -16,7 +15,7 @@ use Rattle.sparse_poly.specs.declared.entry.Share.{Share}
 use Rattle.sparse_poly.specs.Polynomials.{coefficient}
 use Rattle.sparse_poly.specs.Contributions.{max_coeff, IsFalling}
 use Rattle.sparse_poly.specs.Standing.{ssum, sweight, Agree, AllBelow, IsDescending, IsTaken, IsLightSum, IsHeaviestShare}
-use Rattle.sparse_poly.proofs.Evaluation.{zero_plus, coefficient-append}
+use Rattle.sparse_poly.proofs.Evaluation.{zero_plus, coefficient-append, tied}
 use Rattle.sparse_poly.proofs.Sums.{ssum-append, sweight-append}
 use Rattle.sparse_poly.proofs.Standings.{agree_plus, agree_through, same_agrees, same_if_light, heavy_if, light_if}
 use Rattle.sparse_poly.proofs.Descending.{all_front, all_back, all_both, all_more, all_map, below_more}
@@ -37,11 +36,6 @@ not_tied m x l = ap is_eq (monomial_cmp-IsTotalOrder.antisymm m x.monomial ∙ a
 -- no share of m is among shares below m
 below_zero : (m : List (ℕ × ℕ)) (xs : List Share) → AllBelow m xs → (ssum xs m ≡ pos 0) × (sweight xs m ≡ 0)
 below_zero m xs h = others_zero m xs (all_map (λ (x : Share). monomial_cmp x.monomial m ≡ Less) (λ (x : Share). is_eq (monomial_cmp m x.monomial) ≡ false) xs (λ x l. not_tied m x l) h)
-
-tied : (o : Ordering) → is_eq o ≡ true → o ≡ Equal
-tied Less e = absurd (cc e)
-tied Equal e = refl
-tied Greater e = absurd (cc e)
 
 -- s was taken from shares, of which us are left
 pub record IsTakenFrom (xs us : List Share) (s : Share) : Type 0 where

@@ -96,13 +96,6 @@ StandsForBoth-append xs ys m = same_agrees _ _ _ _ (sweight-append m xs ys) (ssu
 pub Stands-append : (xs ys : List Share) (cs ds : List Term) → Stands xs cs → Stands ys ds → Stands (xs ++ ys) (cs ++ ds)
 Stands-append xs ys cs ds a b = Stands-both (xs ++ ys) xs ys cs ds (StandsForBoth-append xs ys) a b
 
-pub Stands-alone : (xs ys : List Share) (cs : List Term) → ys ≡ [] → Stands xs cs → Stands (xs ++ ys) cs
-Stands-alone xs ys cs e a = subst (λ zs. Stands zs cs) (sym (append_nil xs) ∙ ap (λ zs. xs ++ zs) (sym e)) a
-  where
-    append_nil : (xs : List Share) → xs ++ [] ≡ xs
-    append_nil [] = refl
-    append_nil (x ∷ xs) = ap (λ zs. x ∷ zs) (append_nil xs)
-
 pub Stands-one : (s : Share) (t : Term) → s.monomial ≡ t.monomial → Agree s.weight s.sum (unsigned_abs t.coeff) t.coeff → Stands (s ∷ []) (t ∷ [])
 Stands-one s t e a m = agree_plus _ _ _ _ _ _ _ _ (subst (λ n. Agree (if is_eq (monomial_cmp m s.monomial) then s.weight else 0) (if is_eq (monomial_cmp m s.monomial) then s.sum else pos 0) (if is_eq (monomial_cmp m n) then unsigned_abs t.coeff else 0) (if is_eq (monomial_cmp m n) then t.coeff else pos 0)) e (either (is_eq (monomial_cmp m s.monomial)))) (inl (refl, refl))
   where

@@ -1,5 +1,5 @@
 -- Stripped polynomials: what strip gives, that there is one rest, and what units are.
-use Rattle.std.specs.Prelude.{◌≡◌, ◌≢◌, ◌<◌, ◌≤◌, ℕ, ◌⊎◌, ◌==◌, Bool, true, false, nat_lt, IsTrue, ℤ, pos, ◌*ℤ◌, List, [], ◌∷◌, ◌++◌, refl}
+use Rattle.std.specs.Prelude.{◌≡◌, ◌≢◌, ◌<◌, ◌≤◌, ℕ, ◌⊎◌, ◌==◌, Bool, true, false, nat_lt, IsTrue, ℤ, pos, ◌*ℤ◌, List, [], ◌∷◌, refl}
 use mathlib.Core.Logic.{inl, inr}
 use Rattle.std.proofs.Common.{arith, sym, ◌∙◌, ap, subst}
 use Rattle.std.proofs.lemmas.Bool.Decides.{nat_tests, eqb_tells}
@@ -21,14 +21,11 @@ use Rattle.sparse_poly.proofs.Same.{same_falling}
 use Rattle.sparse_poly.proofs.PrimitiveParts.{same_primitive, cancel_factor}
 use Rattle.sparse_poly.proofs.Contents.{content_nonzero, IsPoly-quotient, IsPrimitive-quotient}
 use Rattle.sparse_poly.proofs.UnitMonomials.{Contains-from_test, test-from_Contains}
+use Rattle.std.proofs.lemmas.List.{append-nil}
 
 -- the product of one term with a polynomial
-append_end : (ts : List Term) → ts ++ [] ≡ ts
-append_end [] = refl
-append_end (t ∷ ts) = ap (λ us. t ∷ us) (append_end ts)
-
 pub products-one : (t : Term) (us : List Term) → products (t ∷ []) us ≡ row t us
-products-one t us = append_end (row t us)
+products-one t us = append-nil (row t us)
 
 no_row : (t : Term) (us : List Term) → row t us ≡ [] → us ≡ []
 no_row t [] e = refl

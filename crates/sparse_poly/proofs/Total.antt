@@ -1,14 +1,12 @@
 -- The order of polynomials is total, and only equal polynomials tie.
-use Rattle.std.specs.Prelude.{◌≡◌, refl}
+use Rattle.std.specs.Prelude.{◌≡◌}
 use Rattle.std.proofs.Common.{◌∙◌, ap}
-use Rattle.std.specs.declared.cmp.Ordering.{Ordering}
-use Rattle.std.specs.declared.cmp.Ordering.TheVariants.{Less, Equal, Greater}
 use Rattle.std.specs.Cmp.{IsTotalOrder, on_total}
 use Rattle.std.proofs.lemmas.Cmp.{then_total, lists_total, int_cmp_total}
 use Rattle.std.specs.FinMap.{IsAntisymmetric, int_cmp-IsAntisymmetric, slice_cmp-IsAntisymmetric}
-use Rattle.std.specs.Ordering.{ordering_then, int_cmp}
+use Rattle.std.specs.Ordering.{int_cmp}
 use Rattle.monomial.specs.Monomials.{monomial_cmp}
-use Rattle.monomial.proofs.Total.{monomial_cmp-IsAntisymmetric, monomial_cmp-IsTotalOrder}
+use Rattle.monomial.proofs.Total.{both_equal, monomial_cmp-IsAntisymmetric, monomial_cmp-IsTotalOrder}
 use Rattle.sparse_poly.specs.declared.Term.{Term}
 use Rattle.sparse_poly.specs.Order.{term_cmp, poly_cmp}
 
@@ -21,11 +19,6 @@ pub term_cmp-IsAntisymmetric : IsAntisymmetric term_cmp
 term_cmp-IsAntisymmetric t u e =
     let b = both_equal (monomial_cmp t.monomial u.monomial) (int_cmp t.coeff u.coeff) e in
     same_term t u (monomial_cmp-IsAntisymmetric t.monomial u.monomial b.0) (int_cmp-IsAntisymmetric t.coeff u.coeff b.1)
-  where
-    both_equal : (o u : Ordering) → ordering_then o u ≡ Equal → (o ≡ Equal) × (u ≡ Equal)
-    both_equal Less u e = absurd (cc e)
-    both_equal Equal u e = (refl, e)
-    both_equal Greater u e = absurd (cc e)
 
 pub poly_cmp-IsAntisymmetric : IsAntisymmetric poly_cmp
 poly_cmp-IsAntisymmetric = slice_cmp-IsAntisymmetric term_cmp-IsAntisymmetric

@@ -6,8 +6,6 @@ use Rattle.std.proofs.lemmas.Bool.Decides.{nat_tests, eqb_tells}
 use Rattle.std.specs.List.{AllByRecursion, Contains}
 use Rattle.std.specs.Ordering.{is_eq}
 use Rattle.std.specs.Cmp.{tied_itself}
-use Rattle.std.specs.declared.cmp.Ordering.{Ordering}
-use Rattle.std.specs.declared.cmp.Ordering.TheVariants.{Less, Equal, Greater}
 use Rattle.std.specs.declared.option.Option.TheVariants.{Some}
 use Rattle.monomial.specs.Monomials.{exponent, IsBelow, IsPowers, IsMonomial}
 use Rattle.monomial.proofs.Exponents.{exponent_here, exponent_there, exponent_above}
@@ -17,13 +15,9 @@ use Rattle.sparse_poly.specs.Contributions.{IsPoly}
 use Rattle.sparse_poly.specs.Order.{poly_cmp}
 use Rattle.sparse_poly.specs.Factors.{is_member, least_exponent, unit_exponent, unit_powers, IsUnitMonomial}
 use Rattle.sparse_poly.proofs.Total.{poly_cmp-IsAntisymmetric, poly_cmp-IsTotalOrder}
+use Rattle.sparse_poly.proofs.Evaluation.{tied}
 
 -- membership by the test
-tied : (o : Ordering) → is_eq o ≡ true → o ≡ Equal
-tied Less e = absurd (cc e)
-tied Equal e = refl
-tied Greater e = absurd (cc e)
-
 pub contains_later : (units : List (List Term)) (u p : List Term) → Contains units p → Contains (u ∷ units) p
 contains_later units u p (k, l, e) = (suc k, omega arith, e)
 
