@@ -8,3 +8,4 @@ pub mod Words
 pub mod Lanes
 pub mod Masks
 pub mod Placings
+pub mod Quotients

@@ -7,15 +7,9 @@ use Rattle.std.specs.Ordering.{nat_cmp, MatchOrdering, ordering_then, ordering_r
 use Rattle.std.proofs.lemmas.Cmp.{ranked}
 use Rattle.std.specs.declared.cmp.Ordering.{Ordering}
 use Rattle.std.specs.declared.cmp.Ordering.TheVariants.{Less, Equal, Greater}
-use Rattle.monomial.specs.Monomials.{exponent, monomial_times, monomial_cmp, IsBelow, IsPowers, without}
+use Rattle.monomial.specs.Monomials.{exponent, monomial_times, monomial_cmp, IsBelow, IsLower, IsPowers, without}
 use Rattle.monomial.proofs.Exponents.{exponent_here, exponent_there, exponent_above, exponent-times, IsPowers-times, IsBelow-more, IsPowers-without, exponent-without, exponent-without_own}
 use Rattle.monomial.proofs.Total.{monomial_cmp-IsAntisymmetric, monomial_cmp-IsTotalOrder}
-
--- at the greatest variable in which the exponents differ, a has the smaller one
-pub record IsLower (a b : List (ℕ × ℕ)) : Type 0 where
-  pub at : ℕ
-  pub smaller : exponent a at < exponent b at
-  pub same : (w : ℕ) → at < w → exponent a w ≡ exponent b w
 
 head_lower : (a b : ℕ × ℕ) (xs ys : List (ℕ × ℕ)) → a.0 < b.0 → IsPowers (a ∷ xs) → IsPowers (b ∷ ys) → IsLower (a ∷ xs) (b ∷ ys)
 head_lower a b xs ys l h i =

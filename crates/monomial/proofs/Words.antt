@@ -13,9 +13,9 @@ use Rattle.std.specs.Ordering.{nat_cmp, MatchOrdering, ordering_reverse}
 use Rattle.std.specs.Cmp.{tied_itself}
 use Rattle.std.proofs.lemmas.Cmp.{ranked}
 use Rattle.monomial.proofs.Total.{monomial_cmp-IsTotalOrder}
-use Rattle.monomial.specs.Monomials.{exponent, monomial_times, monomial_cmp, IsBelow, IsPowers, IsMonomial}
+use Rattle.monomial.specs.Monomials.{exponent, monomial_times, monomial_cmp, IsBelow, IsLower, IsPowers, IsMonomial}
 use Rattle.monomial.proofs.Exponents.{exponent_here, exponent_there, exponent_above, exponent-times, same_from_exponents}
-use Rattle.monomial.proofs.Lower.{IsLower, cmp-from_IsLower}
+use Rattle.monomial.proofs.Lower.{cmp-from_IsLower}
 use Rattle.monomial.specs.Layouts.{AreFalling, IsLayout, word_of, lane, monomial_of, FitsLayout, IsWordIn}
 
 -- members of a list

@@ -14,7 +14,7 @@ use Rattle.monomial.specs.declared.MonoFault.TheVariants.{Degree, OutOfMemory}
 abbrev pub power_cmp : ℕ × ℕ → ℕ × ℕ → Ordering
 power_cmp p q = ordering_then (nat_cmp p.0 q.0) (nat_cmp p.1 q.1)
 
--- a is below b where, at the greatest variable in which their exponents differ, a has the smaller one
+-- the order of monomials: power by power from the greatest variable down, and a proper prefix is below the longer list
 abbrev pub monomial_cmp : List (ℕ × ℕ) → List (ℕ × ℕ) → Ordering
 monomial_cmp = slice_cmp power_cmp
 
@@ -22,6 +22,12 @@ monomial_cmp = slice_cmp power_cmp
 abbrev pub exponent : List (ℕ × ℕ) → ℕ → ℕ
 exponent [] v = 0
 exponent (p ∷ ps) v = if p.0 == v then p.1 else exponent ps v
+
+-- at the greatest variable in which the exponents differ, a has the smaller one
+pub record IsLower (a b : List (ℕ × ℕ)) : Type 0 where
+  pub at : ℕ
+  pub smaller : exponent a at < exponent b at
+  pub same : (w : ℕ) → at < w → exponent a w ≡ exponent b w
 
 -- the greatest variable
 abbrev pub top : List (ℕ × ℕ) → Option ℕ

@@ -1,7 +1,7 @@
 //! Products of powers of variables, in the order of the greatest variable.
 #![tactic(auto)]
 
-ghost use Rattle.std.specs.Prelude.{◌≡◌, ◌<◌, ◌≤◌, ℕ, ◌+◌, List, [], ◌∷◌, ◌++◌, IfOk, MatchOption, MatchResult, IsTrue, ◌↔◌, length, slice_index_or};
+ghost use Rattle.std.specs.Prelude.{◌≡◌, ◌<◌, ◌≤◌, ℕ, ◌+◌, List, [], ◌∷◌, ◌++◌, IfOk, IfSome, MatchOption, MatchResult, IsTrue, ◌↔◌, length, slice_index_or};
 ghost use Rattle.std.specs.declared.option.Option.TheVariants.{None, Some};
 ghost use Rattle.monomial.specs.Monomials.{monomial_cmp, monomial_times, exponent, top, too_high, Divides, IsMonomial, IsProductOf, IsFaultOf, each_divides, lowered, without};
 ghost use Rattle.monomial.specs.Layouts.{monomial_of, FitsLayout, IsWordIn};
@@ -9,6 +9,7 @@ ghost use Rattle.monomial.specs.Readings.{left_powers};
 
 mod keys;
 mod laid;
+pub mod laws;
 mod layout;
 mod powers;
 mod reading;
@@ -16,9 +17,10 @@ mod reading;
 use arrayvec::ArrayVec;
 use keys::multiply_keys;
 use laid::Laid;
+pub use laws::{exponents_law, order_law};
 pub use layout::Layout;
 use layout::lane;
-use powers::Powers;
+use powers::{Powers, small};
 pub use reading::PowersLeft;
 use std::alloc::{AllocError, AllocFailed, Global};
 use std::cmp::Ordering;
@@ -255,8 +257,27 @@ impl Monomial {
         if divisor.len() == 0 {
             return self.copy();
         }
+        if let Some(monomial) = self.over_by_words(divisor) {
+            return Ok(monomial);
+        }
         let powers = quotient(&self.powers, &divisor.powers)?;
         Ok(Monomial { powers })
+    }
+
+    // The quotient by a divisor as a word, where this monomial is stored as one and the divisor fits its layout.
+    fn over_by_words(&self, divisor: &Monomial) -> Option<Monomial>
+        requires { Divides divisor.now self.now }
+        ensures { IfSome result (λ m. monomial_times divisor.now m ≡ self.now) }
+    {
+        let _powers = divisor.len();
+        let layout = self.layout()?;
+        let word = self.word_in(&layout)?;
+        let less = divisor.word_in(&layout)?;
+        Some(Monomial::of_word(
+            self.powers.allocator(),
+            &layout,
+            word - less,
+        ))
     }
 }
 
@@ -402,12 +423,4 @@ fn sum_of(x: u16, y: u16) -> u32
     ensures { result ≡ x + y }
 {
     x as u32 + y as u32
-}
-
-// A power, whose exponent fits its type.
-fn small(power: (u32, u16)) -> (u32, u16)
-    ensures same { result ≡ power }
-    ensures bound { power.1 ≤ 65535 }
-{
-    power
 }

@@ -317,8 +317,8 @@ impl Powers {
     }
 }
 
-// A power, whose exponent fits its type.
-fn small(power: (u32, u16)) -> (u32, u16)
+/// A power, whose exponent fits its type.
+pub fn small(power: (u32, u16)) -> (u32, u16)
     ensures same { result ≡ power }
     ensures bound { power.1 ≤ 65535 }
 {

@@ -1,11 +1,12 @@
 -- Contents and exact quotients.
-use Rattle.std.specs.Prelude.{◌≡◌, ◌≢◌, ◌<◌, ◌≤◌, ℕ, zero, suc, ◌+◌, ◌*◌, ◌/◌, ◌%◌, ◌⊎◌, ℤ, pos, negsuc, neg_ℤ, ◌+ℤ◌, ◌*ℤ◌, ◌<ℤ◌, unsigned_abs, List, [], ◌∷◌, ◌++◌, length, slice_index_or, slice_get, take, int_div, int_rem, refl}
+use Rattle.std.specs.Prelude.{◌≡◌, ◌≢◌, ◌<◌, ◌≤◌, ℕ, zero, suc, ◌+◌, ◌*◌, ◌/◌, ◌%◌, ◌⊎◌, ℤ, pos, negsuc, neg_ℤ, ◌+ℤ◌, ◌*ℤ◌, ◌<ℤ◌, unsigned_abs, List, [], ◌∷◌, ◌++◌, length, slice_index_or, slice_get, take, drop, int_div, int_rem, refl}
 use Prim.Native.Nat.{◌∣◌}
 use mathlib.Core.Logic.{inl, inr}
 use Rattle.std.proofs.Common.{arith, sym, ◌∙◌, ap, subst}
 use Rattle.std.proofs.lemmas.Int.{ints, unsigned_abs-mul, quot-rem, rem_below}
 use Rattle.std.proofs.Math.IntN.{*ℤ-zero, *ℤ_comm, pos-*ℤ-negsuc, negsuc-*ℤ-negsuc}
-use Rattle.std.proofs.Math.Nat.{div-add-mod', mul-dvd-mul_right, eq-zero_of_zero-dvd}
+use Rattle.std.proofs.Math.Nat.{div-add-mod', mul-dvd-mul_right, eq-zero_of_zero-dvd, one-dvd}
+use Rattle.std.proofs.lemmas.List.{take-append-drop}
 use Rattle.std.proofs.lemmas.Nat.Gcd.{le_of_dvd, mod-eq-zero_of_dvd}
 use Rattle.std.specs.Int.{IsGcd}
 use Rattle.std.specs.List.{AllByRecursion}
@@ -105,6 +106,17 @@ IsCommonDivisor-more ts k t g n h l e c s i =
       divides = all_more (λ (u : Term). h ∣ unsigned_abs u.coeff) (take k ts) t (all_weaker h g (take k ts) i.0 c.divides) (subst (λ m. h ∣ m) s i.1);
       greatest = λ d a. i.2 d (c.greatest d (front_all d (take k ts) (t ∷ []) a)) (subst (λ m. d ∣ m) (sym s) (last_all d (take k ts) t a));
     })
+
+-- one is the greatest common divisor of all where it is that of some
+one_all : (ts : List Term) → DividesAll 1 ts
+one_all [] = tt
+one_all (t ∷ ts) = (one-dvd (unsigned_abs t.coeff), one_all ts)
+
+pub IsCommonDivisor-one : (ts : List Term) (k : ℕ) → IsCommonDivisor (take k ts) 1 → IsCommonDivisor ts 1
+IsCommonDivisor-one ts k c = record {
+  divides = one_all ts;
+  greatest = λ d a. c.greatest d (front_all d (take k ts) (drop k ts) (subst (DividesAll d) (sym (take-append-drop k ts)) a));
+}
 
 -- the content
 size_some : (n : ℕ) (z : ℤ) → z ≢ pos 0 → n ∣ unsigned_abs z → 0 < n

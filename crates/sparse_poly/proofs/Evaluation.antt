@@ -1,5 +1,5 @@
 -- The value of a polynomial in a field: it depends on the sums of coefficients alone, and that of a sum, a product and a difference.
-use Rattle.std.specs.Prelude.{◌≡◌, ◌≢◌, ◌≤◌, ℕ, zero, suc, ◌+◌, true, false, if◌then◌else◌, ℤ, pos, ◌+ℤ◌, ◌*ℤ◌, List, [], ◌∷◌, ◌++◌, length, slice_index_or, refl}
+use Rattle.std.specs.Prelude.{◌≡◌, ◌≢◌, ◌≤◌, ℕ, zero, suc, ◌+◌, true, false, if◌then◌else◌, ℤ, pos, neg_ℤ, ◌+ℤ◌, ◌*ℤ◌, List, [], ◌∷◌, ◌++◌, length, slice_index_or, refl}
 use Rattle.std.proofs.Common.{arith, sym, ◌∙◌, ap}
 use Rattle.std.proofs.lemmas.Int.{ints}
 use Rattle.std.specs.Ordering.{is_eq, nat_cmp}
@@ -45,6 +45,13 @@ coefficient-append m (t ∷ ts) us = let rest = coefficient-append m ts us in pl
 pub weight-append : (m : List (ℕ × ℕ)) (ts us : List Term) → weight (ts ++ us) m ≡ weight ts m + weight us m
 weight-append m [] us = omega arith
 weight-append m (t ∷ ts) us = let rest = weight-append m ts us in omega arith
+
+pub coefficient-negated : (m : List (ℕ × ℕ)) (ts : List Term) → coefficient (negated ts) m ≡ neg_ℤ (coefficient ts m)
+coefficient-negated m [] = refl
+coefficient-negated m (t ∷ ts) = let rest = coefficient-negated m ts in elim (is_of m t) as (λ b. (if b then neg_ℤ t.coeff else pos 0) +ℤ coefficient (negated ts) m ≡ neg_ℤ ((if b then t.coeff else pos 0) +ℤ coefficient ts m)) [ true ↦ more t.coeff _ _ rest | false ↦ more (pos 0) _ _ rest ]
+  where
+    more : (c a b : ℤ) → a ≡ neg_ℤ b → neg_ℤ c +ℤ a ≡ neg_ℤ (c +ℤ b)
+    more c a b e = omega (arith, ints)
 
 others-own : (m : List (ℕ × ℕ)) (ts : List Term) → coefficient (others m ts) m ≡ pos 0
 others-own m [] = refl

@@ -1,12 +1,37 @@
-//! Laws of polynomials in every field of characteristic zero. They speak of lists of terms alone, with no bound on coefficients or exponents and
-//! no order of the terms: `p ++ q` is the sum of two, `products p q` their product, and `IsSum r cs` says that r is what the terms cs add up to.
-ghost use Rattle.std.specs.Prelude.{◌≡◌, ◌≢◌, ◌↔◌, ◌++◌};
+//! Laws of polynomials, and of their values in every field of characteristic zero.
+//!
+//! A list of terms stands for the map `coefficient` from monomials to whole numbers, and `IsSum r cs` says that r has the map of cs. The laws of
+//! values have no bound on coefficients and exponents and no order of the terms: `p ++ q` is the sum of two, `products p q` their product.
+ghost use Rattle.std.specs.Prelude.{◌≡◌, ◌≢◌, ◌↔◌, ◌++◌, ◌+ℤ◌, neg_ℤ};
+ghost use Rattle.std.specs.Cmp.{IsTotalOrder};
+ghost use Rattle.std.specs.FinMap.{IsAntisymmetric};
 ghost use Rattle.field_laws.specs.Field.{AllElements};
-ghost use Rattle.sparse_poly.specs.Polynomials.{eval, products, negated, IsSum};
+ghost use Rattle.sparse_poly.specs.Polynomials.{coefficient, eval, products, negated, IsSum};
+ghost use Rattle.sparse_poly.specs.Contributions.{IsPoly};
+ghost use Rattle.sparse_poly.specs.Order.{poly_cmp};
 ghost use Rattle.sparse_poly.specs.Primitive.{IsPrimitivePart};
 ghost use Rattle.sparse_poly.specs.Units.{IsStripped, IsUnit, AllNonzero};
 
 use field_laws::CharZeroField;
+
+/// A polynomial is the map of its coefficients: two with the same coefficients are the same. The coefficients of a sum are the sums, and those
+/// of a negation the negations.
+pub fn coefficients_law()
+    ensures same { (p q : _) → IsPoly p → IsPoly q → IsSum p q → p ≡ q }
+    ensures sum { (p q : _) (m : _) → coefficient (p ++ q) m ≡ coefficient p m +ℤ coefficient q m }
+    ensures negation { (p : _) (m : _) → coefficient (negated p) m ≡ neg_ℤ (coefficient p m) }
+{}
+
+/// The order of polynomials is total, and only equal ones tie.
+pub fn order_law()
+    ensures total { IsTotalOrder poly_cmp }
+    ensures ties { IsAntisymmetric poly_cmp }
+{}
+
+/// The value depends on the coefficients alone.
+pub fn value_law<F: CharZeroField>()
+    ensures { (s : _) (p q : _) → AllElements F.field s → IsSum p q → eval F.field s p ≡ eval F.field s q }
+{}
 
 /// The value of a product is the product of the values.
 pub fn product_law<F: CharZeroField>()

@@ -26,7 +26,8 @@ mod weighing;
 
 use falling::is_polynomial;
 pub use laws::{
-    combined_law, primitive_law, product_law, strip_law, subtraction_law, sum_law, unit_law,
+    coefficients_law, combined_law, order_law, primitive_law, product_law, strip_law,
+    subtraction_law, sum_law, unit_law, value_law,
 };
 use layout::laid;
 use monomial::Monomial;

@@ -37,6 +37,9 @@ fn common_divisor(terms: &[Term]) -> u128
     let mut divisor = 0;
     for term in terms {
         divisor = gcd(divisor, term.coeff.unsigned_abs());
+        if divisor == 1 {
+            return 1;
+        }
     }
     divisor
 }
@@ -73,6 +76,9 @@ fn exact_quotient(coeff: i128, divisor: i128) -> i128
     requires divides { unsigned_abs divisor ∣ unsigned_abs coeff }
     ensures { divisor *ℤ result ≡ coeff }
 {
+    if divisor == 1 {
+        return coeff;
+    }
     coeff / divisor
 }
 
