@@ -3,11 +3,11 @@ use Rattle.std.specs.Prelude.{◌≡◌, ◌≢◌, ◌<◌, ◌≤◌, ℕ, zer
 use mathlib.Core.Logic.{◌⊎◌, inl, inr}
 use Rattle.std.proofs.Common.{arith, sym, ◌∙◌, ap, subst}
 use Rattle.std.proofs.Math.Numerals.{add-one}
-use Rattle.std.proofs.lemmas.Nat.{mod_below, shr-shr, pow_below}
+use Rattle.std.proofs.lemmas.Nat.{mod_below, shr-shr}
 use Rattle.std.proofs.lemmas.Bool.{cases_lt}
 use Rattle.std.proofs.Math.Seq.{take-suc}
 use Rattle.std.specs.List.{AllByRecursion}
-use Rattle.monomial.specs.Layouts.{lane, lanes, AreFalling, IsLayout, monomial_of}
+use Rattle.monomial.specs.Layouts.{lane, lanes, AreFalling, monomial_of}
 use Rattle.monomial.specs.Monomials.{exponent}
 use Rattle.monomial.proofs.Words.{more_cases, place_more, own_exponent, other_exponent}
 
@@ -51,9 +51,6 @@ in_range_lanes : (n w : ℕ) → AllByRecursion (λ v. v < 65536) (lanes n w)
 unfolding lanes
 in_range_lanes zero w = tt
 in_range_lanes (suc n) w = (lane_below w n, in_range_lanes n w)
-
-pub IsLayout-lanes : (w : ℕ) → AreFalling (lanes 8 w) → IsLayout (lanes 8 w)
-IsLayout-lanes w f = record { falling = f; in_range = in_range_lanes 8 w; eight = length-lanes 8 w }
 
 -- the powers in the lanes below a place
 pub lanes_more : (n v w : ℕ) → 0 < n → 0 < lane w (n - 1) → monomial_of (lanes n v) w ≡ (lane v (n - 1), lane w (n - 1)) ∷ monomial_of (lanes (n - 1) v) w
@@ -119,19 +116,6 @@ next_bound w v i h b = subst (λ p. w * 65536 + v < p) (sym (place_more i)) (ste
     step : (w v p : ℕ) → v < 65536 → w < p → w * 65536 + v < 65536 * p
     step w v p h b = omega arith
 
-pub Packing-bound : (vs : List ℕ) (i w v : ℕ) → i < length vs → v < 65536 → Packing vs i w → w * 65536 + v < 2 ^ 128
-Packing-bound vs i w v l h g = within (next_bound w v i h g.bound) (pow-mono (16 * suc i) 128 (omega (arith, l, g.eight)))
-  where
-    within : w * 65536 + v < 2 ^ (16 * suc i) → 2 ^ (16 * suc i) ≤ 2 ^ 128 → w * 65536 + v < 2 ^ 128
-    within a b = omega arith
-
-    pow-mono : (j k : ℕ) → j ≤ k → 2 ^ j ≤ 2 ^ k
-    pow-mono j k h = each (cases_lt j k)
-      where
-        each : (j < k) ⊎ (k ≤ j) → 2 ^ j ≤ 2 ^ k
-        each (inl l) = let low = pow_below j k l in omega arith
-        each (inr l) = let same : j ≡ k = omega arith in rw same (omega arith)
-
 pub Packing-more : (vs : List ℕ) (i w v : ℕ) → i < length vs → v ≡ slice_index_or vs i v → v < 65536 → Packing vs i w → Packing vs (i + 1) (w * 65536 + v)
 Packing-more vs i w v l e h g = subst (λ k. Packing vs k (w * 65536 + v)) (sym (add-one i)) (record {
   made = lanes_below i w v h ∙ ap (λ ks. ks ++ v ∷ []) g.made ∙ sym taken;
@@ -146,33 +130,6 @@ Packing-more vs i w v l e h g = subst (λ k. Packing vs k (w * 65536 + v)) (sym 
     all_end : (xs : List ℕ) (x : ℕ) → AllByRecursion (λ v. v < 65536) xs → x < 65536 → AllByRecursion (λ v. v < 65536) (xs ++ x ∷ [])
     all_end [] x a h = (h, tt)
     all_end (y ∷ ys) x a h = (a.0, all_end ys x a.1 h)
-
-pub Packing-end : (vs : List ℕ) (i w : ℕ) → length vs ≤ i → i ≤ length vs → Packing vs i w → (lanes 8 w ≡ vs) × AllByRecursion (λ v. v < 65536) vs
-Packing-end vs i w h k g = (ap (λ n. lanes n w) (sym count) ∙ g.made ∙ whole, subst (AllByRecursion (λ v. v < 65536)) whole g.in_range)
-  where
-    count : i ≡ 8
-    count = omega (arith, g.eight)
-
-    all : (xs : List ℕ) (n : ℕ) → length xs ≤ n → take n xs ≡ xs
-    all [] zero h = refl
-    all [] (suc n) h = refl
-    all (x ∷ xs) zero h = absurd (omega arith)
-    all (x ∷ xs) (suc n) h = ap (λ ys. x ∷ ys) (all xs n (omega arith))
-
-    whole : take i vs ≡ vs
-    whole = all vs i h
-
--- a list whose variables are not all in range is no layout
-pub not_in_range : (vs : List ℕ) (i v : ℕ) → i < length vs → v ≡ slice_index_or vs i v → 65536 ≤ v → IsLayout vs → ⊥
-not_in_range vs i v l e h y = low (at vs i v l e y.in_range)
-  where
-    low : v < 65536 → ⊥
-    low k = absurd (omega arith)
-
-    at : (xs : List ℕ) (i v : ℕ) → i < length xs → v ≡ slice_index_or xs i v → AllByRecursion (λ v. v < 65536) xs → v < 65536
-    at [] i v l e a = absurd (omega arith)
-    at (x ∷ xs) zero v l e a = subst (λ k. k < 65536) (sym e) a.0
-    at (x ∷ xs) (suc i) v l e a = at xs i v (omega arith) e a.1
 
 -- lanes that fall, two next to each other
 pub lanes_fall : (w m n : ℕ) → 0 < n → n < m → AreFalling (lanes m w) → lane w (n - 1) < lane w n

@@ -3,11 +3,6 @@ use Rattle.std.specs.Prelude.{◌≡◌, ℕ, ◌+◌, ◌<◌, ◌≤◌, List,
 use Rattle.std.proofs.Common.{arith, sym, ◌∙◌, ap, drop-cons, append_assoc}
 use Rattle.std.proofs.Math.Numerals.{add-one}
 use Rattle.std.proofs.lemmas.Bool.Decides.{nat_tests}
-use Rattle.std.proofs.lemmas.List.{length-append, length-drop}
-use Rattle.std.specs.FinMap.Entries.{by_order}
-use Rattle.std.specs.Ordering.{nat_cmp}
-use Rattle.std.specs.declared.cmp.Ordering.{Ordering}
-use Rattle.std.specs.declared.cmp.Ordering.TheVariants.{Less, Equal, Greater}
 use Rattle.monomial.specs.Monomials.{monomial_times, too_high}
 
 pub times-end : (as' : List (ℕ × ℕ)) → monomial_times as' [] ≡ as'
@@ -51,21 +46,3 @@ pub Met-left : (xs ys out : List (ℕ × ℕ)) (i j : ℕ) → i < length xs →
 Met-left xs ys out i j h g small m =
     next xs ys out i j (i + 1) j _ (omega arith) (omega arith) small
     (rw (drop_end ys j g, drop_one xs i h) (ap (λ r. slice_index_or xs i (0, 0) ∷ r) (sym (times-end (drop (i + 1) xs))))) m
-
-longer_order : (o : Ordering) (a b : ℕ × ℕ) (x y z : List (ℕ × ℕ)) → 0 < length (by_order o (b ∷ x) ((a.0, a.1 + b.1) ∷ y) (a ∷ z))
-longer_order Less a b x y z = omega arith
-longer_order Equal a b x y z = omega arith
-longer_order Greater a b x y z = omega arith
-
-some_power : (xs ys : List (ℕ × ℕ)) → 0 < length xs + length ys → 0 < length (monomial_times xs ys)
-some_power [] ys h = omega arith
-some_power (a ∷ xs) [] h = omega arith
-some_power (a ∷ xs) (b ∷ ys) h = longer_order (nat_cmp a.0 b.0) a b _ _ _
-
--- a product that is not at its end has more powers than were made
-pub Met-longer : (xs ys : List (ℕ × ℕ)) (i j : ℕ) (out : List (ℕ × ℕ)) → i + j < length xs + length ys → Met xs ys i j out → length out < length (monomial_times xs ys)
-Met-longer xs ys i j out h m =
-    let whole : length (monomial_times xs ys) ≡ length out + length (monomial_times (drop i xs) (drop j ys)) = ap length m.made ∙ length-append out _ in
-    let more : 0 < length (drop i xs) + length (drop j ys) = omega (arith, length-drop i xs, length-drop j ys, m.first_in, m.second_in) in
-    let some = some_power (drop i xs) (drop j ys) more in
-    omega arith

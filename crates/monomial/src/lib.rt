@@ -273,11 +273,7 @@ impl Monomial {
         let layout = self.layout()?;
         let word = self.word_in(&layout)?;
         let less = divisor.word_in(&layout)?;
-        Some(Monomial::of_word(
-            self.powers.allocator(),
-            &layout,
-            word - less,
-        ))
+        Some(Monomial::of_word(self.powers.allocator(), &layout, word - less))
     }
 }
 

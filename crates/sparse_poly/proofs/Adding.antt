@@ -46,10 +46,6 @@ products-append : (ts us vs : List Term) → products (ts ++ us) vs ≡ products
 products-append [] us vs = refl
 products-append (t ∷ ts) us vs = ap (λ es. row t vs ++ es) (products-append ts us vs) ∙ sym (append_assoc (row t vs) (products ts vs) (products us vs))
 
-pub signed_row-append : (b : Bool) (t : Term) (us vs : List Term) → signed_row b t (us ++ vs) ≡ signed_row b t us ++ signed_row b t vs
-signed_row-append false t us vs = row-append t us vs
-signed_row-append true t us vs = ap negated (row-append t us vs) ∙ negated-append (row t us) (row t vs)
-
 pub signed_products-append : (b : Bool) (ts us vs : List Term) → signed_products b (ts ++ us) vs ≡ signed_products b ts vs ++ signed_products b us vs
 signed_products-append false ts us vs = products-append ts us vs
 signed_products-append true ts us vs = ap negated (products-append ts us vs) ∙ negated-append (products ts vs) (products us vs)
@@ -60,10 +56,3 @@ signed_products-one true t vs = ap negated (append-nil (row t vs))
 
 pub take_one : (xs : List Term) (k : ℕ) (x : Term) → k < length xs → x ≡ slice_index_or xs k x → take (k + 1) xs ≡ take k xs ++ x ∷ []
 take_one xs k x h e = ap (λ n. take n xs) (add-one k) ∙ take-suc xs k x h ∙ ap (λ y. take k xs ++ y ∷ []) (sym e)
-
-pub take_whole : (xs : List Term) (k : ℕ) → k ≡ length xs → take k xs ≡ xs
-take_whole xs k e = ap (λ n. take n xs) e ∙ all xs
-  where
-    all : (xs : List Term) → take (length xs) xs ≡ xs
-    all [] = refl
-    all (x ∷ xs) = ap (λ r. x ∷ r) (all xs)

@@ -5,14 +5,13 @@ use Rattle.std.specs.List.{AllByRecursion}
 use Rattle.std.specs.Ordering.{is_eq, is_lt, ordering_reverse}
 use Rattle.std.specs.declared.cmp.Ordering.{Ordering}
 use Rattle.std.specs.declared.cmp.Ordering.TheVariants.{Less, Equal, Greater}
-use Rattle.std.specs.declared.option.Option.TheVariants.{None}
 use Rattle.monomial.specs.Monomials.{monomial_cmp, IsMonomial}
-use Rattle.monomial.proofs.Exponents.{too_high-IsMonomial}
 use Rattle.monomial.proofs.Total.{monomial_cmp-IsTotalOrder}
 use Rattle.sparse_poly.specs.declared.Term.{Term}
 use Rattle.sparse_poly.specs.Polynomials.{weight, is_of}
-use Rattle.sparse_poly.specs.Contributions.{max_coeff, higher, degree_of, IsFalling, IsPoly, IsResult}
+use Rattle.sparse_poly.specs.Contributions.{max_coeff, IsFalling, IsPoly, IsResult}
 use Rattle.sparse_poly.proofs.Same.{all_through}
+use Rattle.sparse_poly.proofs.Rows.{degree_of-monomials}
 use Rattle.sparse_poly.proofs.Evaluation.{is_of-same}
 
 -- the first term, if there is one, is below this one
@@ -66,13 +65,9 @@ weight_light m (t ∷ ts) p =
           omega arith
     ] refl
 
-degree_none : (ts : List Term) → AllByRecursion (λ (t : Term). IsMonomial t.monomial) ts → degree_of ts ≡ None
-degree_none [] h = refl
-degree_none (t ∷ ts) h = ap (λ o. higher o (degree_of ts)) (too_high-IsMonomial t.monomial h.0) ∙ degree_none ts h.1
-
 pub IsResult-own : (ts : List Term) → IsPoly ts → IsResult ts ts
 IsResult-own ts p = record {
-  degree = degree_none ts p.monomials;
+  degree = degree_of-monomials ts p.monomials;
   light = λ m. weight_light m ts p;
   sums = λ m. refl;
   poly = p;

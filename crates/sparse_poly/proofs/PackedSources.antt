@@ -146,17 +146,6 @@ next_first fs gs ss v w (Some s) g i l h =
       below = under_both s.word gs ss h.below ((i s.word).1 (omega arith));
     }
 
-pub next_only_first : (fs gs ss : List PackedShare) (o : Option PackedShare) → IsGreatestWord ss None → IsPackedNext fs gs o → IsPackedNext (fs ++ ss) (gs ++ ss) o
-next_only_first fs gs ss None e h = (ap (λ xs. xs ++ ss) h.0 ∙ e, ap (λ xs. xs ++ ss) h.1 ∙ e)
-next_only_first fs gs ss (Some s) e h = record {
-  same = same_both (s ∷ gs) ss fs ss h.same (same_itself ss);
-  above = λ n m. under_both n fs ss (h.above n m) (none n);
-  below = under_both s.word gs ss h.below (none s.word);
-}
-  where
-    none : (n : ℕ) → AllUnder n (share_words ss)
-    none n = subst (λ xs. AllUnder n (share_words xs)) (sym e) tt
-
 -- the greatest share is in the second list
 pub next_second : (fs ss ts : List PackedShare) (v w : ℕ) (o : Option PackedShare) → IsGreatestWord fs (Some v) → IsGreatestWord ss (Some w) → v < w → IsPackedNext ss ts o → IsPackedNext (fs ++ ss) (fs ++ ts) o
 next_second fs ss ts v w None g i l h = absurd (never_empty ss w i h.0)
@@ -167,9 +156,6 @@ next_second fs ss ts v w (Some s) g i l h =
       above = λ n m. under_both n fs ss ((g n).1 (omega arith)) (h.above n m);
       below = under_both s.word fs ts ((g s.word).1 (omega arith)) h.below;
     }
-
-pub next_only_second : (fs ss ts : List PackedShare) (o : Option PackedShare) → IsGreatestWord fs None → IsPackedNext ss ts o → IsPackedNext (fs ++ ss) (fs ++ ts) o
-next_only_second fs ss ts o e h = subst (λ xs. IsPackedNext (xs ++ ss) (xs ++ ts) o) (sym e) h
 
 -- both lists have a share of the greatest word
 pub next_both : (fs gs ss ts : List PackedShare) (v w : ℕ) (x y z : PackedShare) → IsGreatestWord fs (Some v) → IsGreatestWord ss (Some w) → v ≡ w → IsPackedTaken fs gs x → IsPackedTaken ss ts y → z.word ≡ x.word → Agree z.weight z.sum (x.weight + y.weight) (x.sum +ℤ y.sum) → IsPackedTaken (fs ++ ss) (gs ++ ts) z

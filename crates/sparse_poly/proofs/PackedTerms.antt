@@ -23,7 +23,7 @@ use Rattle.sparse_poly.specs.Packed.{term_read, terms_read, shares_read, term_wo
 use Rattle.sparse_poly.proofs.Adding.{degree_of-append}
 use Rattle.sparse_poly.proofs.Descending.{all_map, all_more, all_front, all_back}
 use Rattle.monomial.proofs.Words.{word_of-times, word_half, monomial_of-word, IsPowers-monomial_of, IsMonomial-monomial_of, lower_monomial, fits_small, fits_known, fitting_monomial}
-use Rattle.sparse_poly.proofs.Places.{take_more, take_all, drop_end}
+use Rattle.sparse_poly.proofs.Places.{take_more, take_all}
 use Rattle.sparse_poly.proofs.PackedSources.{shares_read-append, under_both}
 use Rattle.sparse_poly.proofs.Packings.{terms_read-append, term_words-append, append_products, drop_at}
 use Rattle.sparse_poly.proofs.Standings.{agree_through, Stands-append, Stands-both}
@@ -32,9 +32,6 @@ use Rattle.sparse_poly.proofs.Standings.{agree_through, Stands-append, Stands-bo
 pub record PackedSoFar (vs : List ℕ) (ts : List Term) (k : ℕ) (out : List PackedTerm) : Type 0 where
   pub terms : terms_read (monomial_of vs) out ≡ take k ts
   pub words : AllPackedIn vs out
-
-pub PackedSoFar-start : (vs : List ℕ) (ts : List Term) → PackedSoFar vs ts 0 []
-PackedSoFar-start vs ts = record { terms = refl; words = tt }
 
 pub PackedSoFar-more : (vs : List ℕ) (ts : List Term) (k : ℕ) (t : Term) (p : PackedTerm) (out : List PackedTerm) → IsLayout vs → k < length ts → t ≡ slice_index_or ts k t → IsMonomial t.monomial → FitsLayout vs t.monomial → p.word ≡ word_of vs t.monomial → p.coeff ≡ t.coeff → PackedSoFar vs ts k out → PackedSoFar vs ts (k + 1) (out ++ p ∷ [])
 PackedSoFar-more vs ts k t p out y h e i f w c g = record {
@@ -194,9 +191,6 @@ product_merged minus ts us xs ys fs bs zs e f b m = subst (λ ws. AreProductShar
 -- one or two terms
 pub one_at : (ts : List PackedTerm) (k : ℕ) (t : PackedTerm) → k < length ts → t ≡ slice_index_or ts k t → take 1 (drop k ts) ≡ t ∷ []
 one_at ts k t h e = ap (take 1) (drop_at ts k t h e)
-
-pub none_at : (ts : List PackedTerm) (k : ℕ) → length ts ≤ k → take 1 (drop k ts) ≡ []
-none_at ts k h = ap (take 1) (drop_end ts k h)
 
 pub one_or_two : (ts : List PackedTerm) → length ts ≤ 2 → ts ≡ take 1 (drop 0 ts) ++ take 1 (drop 1 ts)
 one_or_two [] h = refl

@@ -18,7 +18,7 @@ use Rattle.monomial.specs.Layouts.{AreFalling}
 use Rattle.sparse_poly.specs.Packed.{Reading, term_read, terms_read, share_read, shares_read, term_words, share_words, AllUnder, raised, row_share, row_shares, IsPackedRow, IsPackedProduct, IsPackedMerge}
 use Rattle.sparse_poly.proofs.Evaluation.{zero_plus}
 use Rattle.sparse_poly.proofs.Adding.{signed_products-append, signed_products-one}
-use Rattle.sparse_poly.proofs.Standings.{agree_kept, agree_plus, agree_through, same_agrees, no_products}
+use Rattle.sparse_poly.proofs.Standings.{agree_kept, agree_plus, agree_through, same_agrees}
 use Rattle.sparse_poly.proofs.Descending.{all_map}
 use Rattle.sparse_poly.proofs.Places.{drop_one, drop_end}
 
@@ -134,9 +134,6 @@ pub record PackedMerging (xs ys : List PackedShare) (i j : ℕ) (out : List Pack
   pub second_in : j ≤ length ys
   pub merged : (zs : List PackedShare) → IsPackedMerge (drop i xs) (drop j ys) zs → IsPackedMerge xs ys (out ++ zs)
 
-pub PackedMerging-start : (xs ys : List PackedShare) → PackedMerging xs ys 0 0 []
-PackedMerging-start xs ys = record { first_in = omega arith; second_in = omega arith; merged = λ zs h. h }
-
 pub PackedMerging-first : (xs ys out : List PackedShare) (i j : ℕ) (x y : PackedShare) → i < length xs → j < length ys → x ≡ slice_index_or xs i x → y ≡ slice_index_or ys j y → y.word < x.word → PackedMerging xs ys i j out → PackedMerging xs ys (i + 1) j (out ++ x ∷ [])
 PackedMerging-first xs ys out i j x y h k e f l g =
     let first = drop_at xs i x h e in
@@ -233,10 +230,6 @@ raised_falling w [] f = tt
 raised_falling w (v ∷ vs) f = (raised_under w v vs f.0, raised_falling w vs f.1)
 
 -- products
-pub product_none : (minus : Bool) (ts us : List PackedTerm) → length ts ≡ 0 → IsPackedProduct minus ts us []
-product_none minus [] us e = record { sums = λ r p. subst (Stands []) (sym (no_products minus (terms_read r us))) (λ m. inl (refl, refl)); falling = λ f. tt; under = λ n a b. tt }
-product_none minus (t ∷ ts) us e = absurd (omega arith)
-
 pub product_one : (minus : Bool) (t : PackedTerm) (us : List PackedTerm) (ss : List PackedShare) → IsPackedRow minus t us ss → IsPackedProduct minus (t ∷ []) us ss
 product_one minus t us ss g = record {
   sums = λ r p. subst (Stands (shares_read r ss)) (sym (signed_products-one minus (term_read r t) (terms_read r us))) (g.sums r p);

@@ -1,10 +1,10 @@
 -- The contributions that are handed in, and the sum of two polynomials.
-use Rattle.std.specs.Prelude.{◌≡◌, ◌<◌, ℕ, zero, suc, ◌+◌, ℤ, pos, ◌+ℤ◌, ◌*ℤ◌, unsigned_abs, List, [], ◌∷◌, ◌++◌, length, slice_index_or, refl}
+use Rattle.std.specs.Prelude.{◌≡◌, ◌<◌, ℕ, zero, suc, ◌+◌, ℤ, pos, negsuc, neg_ℤ, ◌+ℤ◌, ◌*ℤ◌, unsigned_abs, List, [], ◌∷◌, ◌++◌, length, slice_index_or, refl}
 use mathlib.Core.Logic.{inl}
 use Rattle.std.proofs.Common.{arith, sym, ◌∙◌, ap, subst}
 use Rattle.std.proofs.lemmas.Int.{ints}
+use Rattle.std.proofs.lemmas.List.{append-nil}
 use Rattle.std.specs.List.{AllByRecursion}
-use Rattle.std.specs.declared.option.Option.{Option}
 use Rattle.std.specs.declared.option.Option.TheVariants.{None}
 use Rattle.monomial.specs.Monomials.{IsMonomial}
 use Rattle.monomial.proofs.Exponents.{too_high-IsMonomial}
@@ -12,9 +12,9 @@ use Rattle.sparse_poly.specs.declared.Term.{Term}
 use Rattle.sparse_poly.specs.declared.entry.Share.{Share}
 use Rattle.sparse_poly.specs.declared.PolyFault.{PolyFault}
 use Rattle.sparse_poly.specs.declared.PolyFault.TheVariants.{Degree, Heavy, OutOfMemory}
-use Rattle.sparse_poly.specs.Polynomials.{coefficient, weight, row}
-use Rattle.sparse_poly.specs.Contributions.{higher, degree_of, IsFalling, IsNoDegree}
-use Rattle.sparse_poly.specs.Standing.{ssum, sweight, Agree, Stands, IsDescending, AllMonomials, IsHeavyFault, IsMerged}
+use Rattle.sparse_poly.specs.Polynomials.{coefficient, weight, row, products, negated}
+use Rattle.sparse_poly.specs.Contributions.{higher, degree_of, contributions, IsFalling, IsFault, IsNoDegree}
+use Rattle.sparse_poly.specs.Standing.{ssum, sweight, Agree, IsDescending, AllMonomials, IsMerged}
 use Rattle.sparse_poly.proofs.Adding.{degree_of-append, higher-None}
 use Rattle.sparse_poly.proofs.Evaluation.{coefficient-append, weight-append}
 use Rattle.sparse_poly.proofs.Sums.{ssum-append, sweight-append}
@@ -30,12 +30,6 @@ all_at P (x ∷ xs) (suc k) u l e h = all_at P xs k u (omega arith) e h.1
 pub record Gathered (cs rest : List Term) (ss : List Share) : Type 0 where
   pub sums : (m : List (ℕ × ℕ)) → Agree (sweight ss m + weight rest m) (ssum ss m +ℤ coefficient rest m) (weight cs m) (coefficient cs m)
   pub degree : degree_of cs ≡ degree_of rest
-
-pub Gathered-start : (cs : List Term) → Gathered cs cs []
-Gathered-start cs = record { sums = λ m. inl (omega arith, plain (coefficient cs m)); degree = refl }
-  where
-    plain : (z : ℤ) → pos 0 +ℤ z ≡ z
-    plain z = omega (arith, ints)
 
 pub Gathered-more : (cs rest left : List Term) (ss zs : List Share) (t : Term) (s : Share) → Gathered cs rest ss → rest ≡ left ++ t ∷ [] → zs ≡ ss ++ s ∷ [] → s.monomial ≡ t.monomial → Agree s.weight s.sum (unsigned_abs t.coeff) t.coeff → IsMonomial t.monomial → Gathered cs left zs
 Gathered-more cs rest left ss zs t s g e f i a h = record {
@@ -57,31 +51,24 @@ Gathered-more cs rest left ss zs t s g e f i a h = record {
     turned_sum : (a b c : ℤ) → (a +ℤ b) +ℤ c ≡ a +ℤ (c +ℤ b)
     turned_sum a b c = omega (arith, ints)
 
-pub Gathered-end : (cs rest : List Term) (ss : List Share) → Gathered cs rest ss → rest ≡ [] → Stands ss cs × (degree_of cs ≡ None)
-Gathered-end cs rest ss g e = (λ m. agree_through _ _ _ _ _ _ (same_agrees _ _ _ _ (plain (sweight ss m) ∙ ap (λ xs. sweight ss m + weight xs m) (sym e)) (plain_sum (ssum ss m) ∙ ap (λ xs. ssum ss m +ℤ coefficient xs m) (sym e))) (g.sums m), g.degree ∙ ap degree_of e)
-  where
-    plain : (a : ℕ) → a ≡ a + 0
-    plain a = omega arith
-
-    plain_sum : (a : ℤ) → a ≡ a +ℤ pos 0
-    plain_sum a = omega (arith, ints)
-
 -- a polynomial is the row of the term 1 with it
-pub row_one : (ps : List Term) → row (record { monomial = []; coeff = pos 1 }) ps ≡ ps
+row_one : (ps : List Term) → row (record { monomial = []; coeff = pos 1 }) ps ≡ ps
 row_one [] = refl
 row_one (p ∷ ps) = ap (λ c. (let t : Term = record { monomial = p.monomial; coeff = c } in t) ∷ row (record { monomial = []; coeff = pos 1 }) ps) (once p.coeff) ∙ ap (λ ts. p ∷ ts) (row_one ps)
   where
     once : (z : ℤ) → pos 1 *ℤ z ≡ z
     once z = omega (arith, ints)
 
+row_minus_one : (ps : List Term) → negated (row (record { monomial = []; coeff = negsuc 0 }) ps) ≡ ps
+row_minus_one [] = refl
+row_minus_one (p ∷ ps) = ap (λ c. (let t : Term = record { monomial = p.monomial; coeff = c } in t) ∷ negated (row (record { monomial = []; coeff = negsuc 0 }) ps)) (twice p.coeff) ∙ ap (λ ts. p ∷ ts) (row_minus_one ps)
+  where
+    twice : (z : ℤ) → neg_ℤ (negsuc 0 *ℤ z) ≡ z
+    twice z = omega (arith, ints)
+
 pub degree_of-monomials : (ps : List Term) → AllMonomials ps → degree_of ps ≡ None
 degree_of-monomials [] h = refl
 degree_of-monomials (p ∷ ps) h = ap (λ o. higher o (degree_of ps)) (too_high-IsMonomial p.monomial h.0) ∙ degree_of-monomials ps h.1
-
-pub no_degree : (ss : List Share) (e : PolyFault) → IsHeavyFault ss e → IsNoDegree e
-no_degree ss (Degree v) h = h
-no_degree ss (Heavy m) h = tt
-no_degree ss OutOfMemory h = tt
 
 -- a product with 1
 pub Agree-once : (w : ℕ) (z c : ℤ) → Agree w z (unsigned_abs (c *ℤ pos 1)) (c *ℤ pos 1) → Agree w z (unsigned_abs c) c
@@ -100,7 +87,15 @@ halves_order ts us xs ys fs bs zs e f b m h i o =
 pub degree_of-sum : (ps qs : List Term) → AllMonomials ps → AllMonomials qs → degree_of (ps ++ qs) ≡ None
 degree_of-sum ps qs h i = degree_of-append ps qs ∙ ap (λ o. higher o (degree_of qs)) (degree_of-monomials ps h) ∙ degree_of-monomials qs i
 
-pub Stands-row_one : (ps : List Term) (m : List (ℕ × ℕ)) (ss : List Share) (high : Option ℕ) → m ≡ [] → high ≡ degree_of (row (record { monomial = m; coeff = pos 1 }) ps) → AllMonomials ps → (high ≡ None → Stands ss (row (record { monomial = m; coeff = pos 1 }) ps)) → Stands ss ps
-Stands-row_one ps m ss high e f h st =
-    let same : row (record { monomial = m; coeff = pos 1 }) ps ≡ ps = ap (λ n. row (record { monomial = n; coeff = pos 1 }) ps) e ∙ row_one ps in
-    subst (Stands ss) same (st (f ∙ ap degree_of same ∙ degree_of-monomials ps h))
+-- its contributions: one times the first polynomial, less minus one times the second
+pub sum_contributions : (one minus : Term) (ps qs : List Term) → one ≡ record { monomial = []; coeff = pos 1 } → minus ≡ record { monomial = []; coeff = negsuc 0 } → contributions (one ∷ []) ps (minus ∷ []) qs ≡ ps ++ qs
+sum_contributions one minus ps qs e f =
+    ap (λ t. products (t ∷ []) ps ++ negated (products (minus ∷ []) qs)) e
+    ∙ ap (λ t. products (record { monomial = []; coeff = pos 1 } ∷ []) ps ++ negated (products (t ∷ []) qs)) f
+    ∙ ap (λ cs. cs ++ negated (products (record { monomial = []; coeff = negsuc 0 } ∷ []) qs)) (append-nil _ ∙ row_one ps)
+    ∙ ap (λ cs. ps ++ cs) (ap negated (append-nil _) ∙ row_minus_one qs)
+
+pub no_high : (cs : List Term) (e : PolyFault) → degree_of cs ≡ None → IsFault cs e → IsNoDegree e
+no_high cs (Degree v) n h = absurd (cc (sym h ∙ n))
+no_high cs (Heavy m) n h = tt
+no_high cs OutOfMemory n h = tt

@@ -119,7 +119,3 @@ halves_high b ts us xs ys old mid new e f g =
 pub halves_sums : (b : Bool) (ts us xs ys : List Term) (mid new : Option ℕ) (ps qs ss : List Share) → ts ≡ xs ++ ys → new ≡ higher mid (degree_of (signed_products b ys us)) → (mid ≡ None → Stands ps (signed_products b xs us)) → (new ≡ None → Stands qs (signed_products b ys us)) → StandsForBoth ss ps qs → new ≡ None → Stands ss (signed_products b ts us)
 halves_sums b ts us xs ys mid new ps qs ss e g p q both n =
     rw (e, signed_products-append b xs ys us) (Stands-both ss ps qs _ _ both (p (none_before mid (degree_of (signed_products b ys us)) (sym g ∙ n))) (q n))
-
-pub no_products : (b : Bool) (us : List Term) → signed_products b [] us ≡ []
-no_products false us = refl
-no_products true us = refl

@@ -202,12 +202,3 @@ IsUnitMonomial-from units (x ∷ xs) t e h = record {
         let least : unit_exponent units (x ∷ xs) (v, exponent t.monomial v) ≡ least_exponent v (exponent t.monomial v) (x ∷ xs) = ap (λ b. if b then least_exponent v (exponent t.monomial v) (x ∷ xs) else 0) (test-from_Contains units (variable v) m) in
         let more = least_above v (exponent t.monomial v) (exponent (unit_powers units (x ∷ xs) t.monomial) v) (x ∷ xs) (omega (arith, a.0, first v)) a in
         absurd (omega (arith, r.1, least, more))
-
-pub IsUnitMonomial-none : (units : List (List Term)) (ts : List Term) → ts ≡ [] → IsUnitMonomial units ts []
-IsUnitMonomial-none units ts e = subst (λ us. IsUnitMonomial units us []) (sym e) (record {
-  monomial = record { powers = tt; in_range = tt };
-  members = tt;
-  divides = tt;
-  greatest = λ v m a. refl;
-  none = λ f. refl;
-})

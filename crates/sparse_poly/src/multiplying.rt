@@ -119,18 +119,28 @@ fn multiplied_by_shares(
     }
 }
 
-/// The terms of a sum.
+/// The terms of a sum, which is one times the first less minus one times the second.
 pub fn added(alloc: Global, first: &[Term], second: &[Term]) -> Result<Vec<Term>, PolyFault>
     requires first_poly { IsPoly first.now }
     requires second_poly { IsPoly second.now }
     ensures answer { MatchResult result (λ v. IsResult (first.now ++ second.now) v.items) (IsFault (first.now ++ second.now)) }
     ensures degree { IfErr result IsNoDegree }
 {
-    let first = copied(alloc, first)?;
-    let second = copied(alloc, second)?;
-    match squeeze(first, second) {
+    let one = [constant_term(alloc, 1)];
+    let minus_one = [constant_term(alloc, -1)];
+    match combined(alloc, &one, first, &minus_one, second) {
         Ok(terms) => Ok(terms),
         Err(fault) => Err(fault),
+    }
+}
+
+// The term of a number.
+fn constant_term(alloc: Global, coeff: i128) -> Term
+    ensures { result ≡ record { monomial = []; coeff = coeff } }
+{
+    Term {
+        monomial: Monomial::one(alloc),
+        coeff,
     }
 }
 
@@ -144,23 +154,6 @@ pub fn summed(alloc: Global, terms: Vec<Term>) -> Result<Vec<Term>, PolyFault>
     match squeeze(shares, Vec::new(alloc)) {
         Ok(terms) => Ok(terms),
         Err(fault) => Err(fault),
-    }
-}
-
-// The terms of a polynomial as shares.
-fn copied(alloc: Global, terms: &[Term]) -> Result<Vec<Share>, AllocError>
-    requires { IsPoly terms.now }
-    ensures sums { IfOk result (λ v. Stands v.items terms.now) }
-    ensures order { IfOk result (λ v. IsDescending v.items) }
-{
-    let one = Term {
-        monomial: Monomial::one(alloc),
-        coeff: 1,
-    };
-    let mut high = None;
-    match row_of(alloc, &one, terms, false, &mut high) {
-        Ok(shares) => Ok(shares),
-        Err(e) => Err(e),
     }
 }
 

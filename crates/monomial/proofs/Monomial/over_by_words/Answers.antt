@@ -1,4 +1,4 @@
-use Rattle.std.proofs.Common.{subst, ap, ◌∙◌, ◌-◌}
+use Rattle.std.proofs.Common.{subst, ap, ◌∙◌}
 use Rattle.monomial.specs.Monomials.{monomial_times, IsMonomial}
 use Rattle.monomial.proofs.Quotients.{no_less, monomial_of-less}
 use Rattle.monomial.proofs.Monomial.over_by_words.Goals as goal

@@ -1,11 +1,17 @@
-use Rattle.sparse_poly.proofs.Rows.{degree_of-sum}
-use Rattle.sparse_poly.proofs.Standings.{Stands-append, IsResult-from_shares, IsFault-from_shares}
+use Rattle.std.proofs.Common.{subst, ◌++◌}
+use Rattle.sparse_poly.specs.Contributions.{IsResult, IsFault}
+use Rattle.sparse_poly.proofs.Rows.{degree_of-sum, sum_contributions, no_high}
 use Rattle.sparse_poly.proofs.multiplying.added.Goals as goal
 
 pub returns-in-Ok-clause-answer : goal.returns-in-Ok-clause-answer
 returns-in-Ok-clause-answer c =
-    IsResult-from_shares _ _ _ (Stands-append _ _ _ _ c.in_ok-first.ensures.sums c.in_ok-second.ensures.sums) (degree_of-sum _ _ c.requires.first_poly.monomials c.requires.second_poly.monomials) c.in-Ok.ensures
+    subst (λ cs. IsResult cs c.in-Ok.terms.items) (sum_contributions _ _ _ _ c.constant_term.ensures c.constant_term-2.ensures) c.in-Ok.ensures
 
-pub returns-in-Err-clause-answer : goal.returns-in-Err-clause-answer
-returns-in-Err-clause-answer c =
-    IsFault-from_shares _ _ c.in-Err.fault (Stands-append _ _ _ _ c.in_ok-first.ensures.sums c.in_ok-second.ensures.sums) (degree_of-sum _ _ c.requires.first_poly.monomials c.requires.second_poly.monomials) c.in-Err.ensures
+pub returns-clause-answer : goal.returns-clause-answer
+returns-clause-answer c =
+    subst (λ cs. IsFault cs c.in-Err.fault) (sum_contributions _ _ _ _ c.constant_term.ensures c.constant_term-2.ensures) c.in-Err.ensures
+
+pub returns-clause-degree : goal.returns-clause-degree
+returns-clause-degree c =
+    no_high (c.args.first.now ++ c.args.second.now) c.in-Err.fault (degree_of-sum _ _ c.requires.first_poly.monomials c.requires.second_poly.monomials)
+    (subst (λ cs. IsFault cs c.in-Err.fault) (sum_contributions _ _ _ _ c.constant_term.ensures c.constant_term-2.ensures) c.in-Err.ensures)
