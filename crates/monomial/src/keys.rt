@@ -1,8 +1,8 @@
 //! Powers in one word each, and lists of at most eight of them.
-ghost use Rattle.std.specs.Prelude.{◌≡◌, ◌≢◌, ◌<◌, ◌≤◌, ◌/◌, ◌%◌, ℕ, ◌+◌, List, [], ◌∷◌, ◌++◌, IfOk, OnOk, MatchOption, map, length, slice_index_or};
+ghost use Rattle.std.specs.Prelude.{◌≡◌, ◌≢◌, ◌<◌, ◌≤◌, ◌/◌, ◌%◌, ℕ, ◌+◌, ◌-◌, List, [], ◌∷◌, ◌++◌, IfOk, OnOk, MatchOption, map, length, slice_index_or};
 ghost use Rattle.monomial.specs.Keys.{power_of};
 ghost use Rattle.std.specs.declared.option.Option.TheVariants.{Some};
-ghost use Rattle.monomial.specs.Monomials.{monomial_cmp, monomial_times, too_high, IsProductOf};
+ghost use Rattle.monomial.specs.Monomials.{exponent, lowered, monomial_cmp, monomial_times, too_high, IsProductOf};
 
 use arrayvec::ArrayVec;
 use std::alloc::{AllocError, Global};
@@ -55,6 +55,23 @@ impl Key {
         ensures { result ≡ (power_of self).0 }
     {
         self.word / 65536
+    }
+
+    // The exponent.
+    fn exponent(self) -> u32
+        ensures { result ≡ (power_of self).1 }
+    {
+        self.word % 65536
+    }
+
+    // The power with an exponent that is less by a number below it.
+    fn lowered(self, less: u32) -> Key
+        requires { less < (power_of self).1 }
+        ensures { power_of result ≡ ((power_of self).0, (power_of self).1 - less) }
+    {
+        Key {
+            word: self.word - less,
+        }
     }
 
     // The power with both exponents added up, where that is at most 65,535.
@@ -111,6 +128,35 @@ pub fn multiply_keys<const ROOM: usize>(
         j += 1;
     }
     None
+}
+
+/// The keys of a quotient: each exponent less that of the divisor, where that is more than nothing.
+#[inline(always)]
+pub fn divide_keys(keys: &[Key], divisor: &[Key]) -> ArrayVec<Key, 8>
+    requires { length keys.now ≤ 8 }
+    ensures { map power_of result.items ≡ lowered (map power_of keys.now) (map power_of divisor.now) }
+{
+    let mut quotient = ArrayVec::new();
+    for key in keys {
+        let less = exponent_in_keys(divisor, key.variable());
+        if key.exponent() <= less {
+            continue;
+        }
+        quotient.push(key.lowered(less));
+    }
+    quotient
+}
+
+// The exponent of a variable in a list of keys, which is 0 where it does not occur.
+fn exponent_in_keys(keys: &[Key], var: u32) -> u32
+    ensures { result ≡ exponent (map power_of keys.now) var }
+{
+    for key in keys {
+        if key.variable() == var {
+            return key.exponent();
+        }
+    }
+    0
 }
 
 /// The lexicographic order of two lists of keys.

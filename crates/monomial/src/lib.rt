@@ -257,23 +257,25 @@ impl Monomial {
         if divisor.len() == 0 {
             return self.copy();
         }
-        if let Some(monomial) = self.over_by_words(divisor) {
-            return Ok(monomial);
+        if let Some(layout) = self.layout() {
+            if let Some(monomial) = self.over_by_words(divisor, &layout) {
+                return Ok(monomial);
+            }
         }
-        let powers = quotient(&self.powers, &divisor.powers)?;
+        let powers = self.powers.over(&divisor.powers)?;
         Ok(Monomial { powers })
     }
 
-    // The quotient by a divisor as a word, where this monomial is stored as one and the divisor fits its layout.
-    fn over_by_words(&self, divisor: &Monomial) -> Option<Monomial>
+    // The quotient by a divisor as a word of a layout, where both fit it.
+    #[inline(never)]
+    fn over_by_words(&self, divisor: &Monomial, layout: &Layout) -> Option<Monomial>
         requires { Divides divisor.now self.now }
         ensures { IfSome result (λ m. monomial_times divisor.now m ≡ self.now) }
     {
         let _powers = divisor.len();
-        let layout = self.layout()?;
-        let word = self.word_in(&layout)?;
-        let less = divisor.word_in(&layout)?;
-        Some(Monomial::of_word(self.powers.allocator(), &layout, word - less))
+        let word = self.word_in(layout)?;
+        let less = divisor.word_in(layout)?;
+        Some(Monomial::of_word(self.powers.allocator(), layout, word - less))
     }
 }
 
@@ -355,7 +357,7 @@ fn other_powers(powers: &Powers, var: u32) -> Result<Powers, AllocError>
     Ok(left)
 }
 
-// The powers of a quotient: each exponent less that of the divisor.
+// The powers of a quotient: each exponent less that of the divisor, power by power.
 fn quotient(powers: &Powers, divisor: &Powers) -> Result<Powers, AllocError>
     ensures { IfOk result (λ v. v ≡ lowered powers.now divisor.now) }
 {

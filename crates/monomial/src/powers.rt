@@ -1,16 +1,16 @@
 //! Lists of powers, which take little room where the powers are few.
 ghost use Rattle.std.specs.Prelude.{◌≡◌, ◌≢◌, ◌<◌, ◌≤◌, ◌/◌, ◌%◌, ℕ, ◌+◌, List, [], ◌∷◌, ◌++◌, IfOk, OnOk, IfSome, MatchOption, MatchResult, map, length, slice_index_or};
 ghost use Rattle.std.specs.declared.option.Option.TheVariants.{None, Some};
-ghost use Rattle.monomial.specs.Monomials.{power_cmp, monomial_cmp, exponent, IsProductOf, IsFaultOf};
+ghost use Rattle.monomial.specs.Monomials.{power_cmp, monomial_cmp, exponent, lowered, IsProductOf, IsFaultOf};
 ghost use Rattle.monomial.specs.Layouts.{IsWordIn};
 ghost use Rattle.monomial.specs.Readings.{left_powers};
 ghost use Rattle.monomial.specs.Keys.{power_of};
 
-use crate::keys::{FEW, Key, listed, multiply_keys, order_of_keys, same_keys};
+use crate::keys::{FEW, Key, divide_keys, listed, multiply_keys, order_of_keys, same_keys};
 use crate::laid::Laid;
 use crate::layout::Layout;
 use crate::reading::PowersLeft;
-use crate::{MonoFault, exponent_in, product};
+use crate::{MonoFault, exponent_in, product, quotient};
 use arrayvec::ArrayVec;
 use std::alloc::{AllocError, Global};
 use std::cmp::Ordering;
@@ -250,6 +250,17 @@ impl Powers {
             }
             _ => product(self, other),
         }
+    }
+
+    /// The powers of a quotient: each exponent less that of the divisor. It fails only where no memory is left.
+    pub fn over(&self, divisor: &Powers) -> Result<Powers, AllocError>
+        ensures { IfOk result (λ p. p ≡ lowered self.now divisor.now) }
+    {
+        if let (Stored::Few(keys), Stored::Few(others)) = (&self.stored, &divisor.stored) {
+            let left = divide_keys(keys.as_slice(), others.as_slice());
+            return Ok(Powers::of_keys(self.alloc, left));
+        }
+        quotient(self, divisor)
     }
 
     // The product of two lists of powers, whose keys these are.

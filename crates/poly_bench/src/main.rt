@@ -2,13 +2,14 @@
 //!
 //! The arguments are ROUNDS TERMS SHORT VARIABLES POWERS, five numbers. Polynomials `q` and `p` are added up from TERMS terms each, and `l` and `a`
 //! from SHORT terms each. A term is the product of POWERS random powers of the variables below VARIABLES, times a number from 1 to 9. Each round makes
-//! `l*q - a*p`, or the product `l*q` where a sixth word `product` is given, and adds the number of its terms; the last round adds a number that
-//! depends on each power and coefficient. With the sixth word `reading` each round adds that number of `q`.
+//! `l*q - a*p`, or the product `l*q` where a sixth word `product` is given, or, with the word `strip`, the rest of `6*x1*x0^2*q` where `x0` and `x1` are
+//! units, and adds the number of its terms; the last round adds a number that depends on each power and coefficient. With the sixth word `reading`
+//! each round adds that number of `q`.
 #![tactic(auto)]
 
 mod making;
 
-use making::{Numbers, Shape, random_poly};
+use making::{Numbers, Shape, random_poly, unit_term, units};
 use monomial::{MonoFault, Monomial};
 use sparse_poly::{Poly, PolyFault};
 use std::alloc::{AllocError, AllocFailed, Global};
@@ -20,6 +21,7 @@ use std::{env, io};
 enum Operation {
     Combination,
     Product,
+    Strip,
     Reading,
 }
 
@@ -91,7 +93,7 @@ fn main(rt: HostRuntime) -> io::Result<ExitCode> {
 fn told(fault: &Fault) -> &'static str {
     match fault {
         Fault::Usage =>
-            "wanted: ROUNDS TERMS SHORT VARIABLES POWERS [product | reading], of which VARIABLES is at least 1",
+            "wanted: ROUNDS TERMS SHORT VARIABLES POWERS [product | strip | reading], of which VARIABLES is at least 1",
         Fault::Range => "an exponent or a coefficient is out of range",
         Fault::OutOfMemory => "out of memory",
     }
@@ -116,6 +118,7 @@ fn answer(rt: &HostRuntime) -> Result<u64, Fault> {
 fn read_plan(words: &[String]) -> Option<Plan> {
     let (numbers, operation) = match words {
         [numbers @ .., last] if last.as_str() == "product" => (numbers, Operation::Product),
+        [numbers @ .., last] if last.as_str() == "strip" => (numbers, Operation::Strip),
         [numbers @ .., last] if last.as_str() == "reading" => (numbers, Operation::Reading),
         numbers => (numbers, Operation::Combination),
     };
@@ -155,11 +158,14 @@ fn run(alloc: Global, plan: &Plan) -> Result<u64, Fault> {
     let p = random_poly(alloc, &mut numbers, &plan.long)?;
     let l = random_poly(alloc, &mut numbers, &plan.short)?;
     let a = random_poly(alloc, &mut numbers, &plan.short)?;
+    let units = units(alloc)?;
+    let whole = unit_term(alloc)?.times(&q)?;
     let mut sum = 0u64;
     for round in 0..plan.rounds {
         let made = match plan.operation {
             Operation::Combination => Poly::combine(alloc, &l, &q, &a, &p)?,
             Operation::Product => l.times(&q)?,
+            Operation::Strip => whole.strip(&units)?.rest,
             Operation::Reading => {
                 sum = sum.wrapping_add(checksum(&q));
                 continue;

@@ -74,3 +74,23 @@ fn random_power(alloc: Global, numbers: &mut Numbers, shape: &Shape) -> Result<M
         Err(_) => Err(Fault::OutOfMemory),
     }
 }
+
+/// The variables 0 and 1 as polynomials.
+pub fn units(alloc: Global) -> Result<Vec<Poly>, Fault> {
+    let mut units = Vec::new(alloc);
+    units.push(Poly::variable(alloc, 0)?)?;
+    units.push(Poly::variable(alloc, 1)?)?;
+    Ok(units)
+}
+
+/// The polynomial `6*x1*x0^2`.
+pub fn unit_term(alloc: Global) -> Result<Poly, Fault> {
+    let square = Monomial::power(alloc, 0, 2)?;
+    let monomial = Monomial::power(alloc, 1, 1)?.times(&square)?;
+    let mut terms = Vec::new(alloc);
+    terms.push(Term { monomial, coeff: 6 })?;
+    match Poly::from_terms(alloc, terms) {
+        Ok(poly) => Ok(poly),
+        Err(fault) => Err(Fault::from(fault)),
+    }
+}
