@@ -15,6 +15,12 @@ pub trait Monomial: Sized {
     /// The product, or nothing where an exponent is above 65,535.
     fn times(&self, other: &Self) -> Option<Self>;
 
+    /// The exponent of a variable.
+    fn exponent(&self, var: u32) -> u16;
+
+    /// The quotient by a monomial that divides this one.
+    fn over(&self, divisor: &Self) -> Self;
+
     /// The order by the exponent of the greatest variable in which two monomials differ.
     fn order(&self, other: &Self) -> Ordering;
 
@@ -101,6 +107,21 @@ impl Monomial for Listed {
         Some(product)
     }
 
+    fn exponent(&self, var: u32) -> u16 {
+        self.powers().iter().find(|power| power.0 == var).map_or(0, |power| power.1)
+    }
+
+    fn over(&self, divisor: &Listed) -> Listed {
+        let mut quotient = Listed::one();
+        for (var, exp) in self.powers() {
+            let less = divisor.exponent(*var);
+            if less < *exp {
+                quotient.push((*var, exp - less));
+            }
+        }
+        quotient
+    }
+
     #[inline]
     fn order(&self, other: &Listed) -> Ordering {
         for (x, y) in self.powers().iter().zip(other.powers()) {
@@ -150,6 +171,16 @@ impl Monomial for Packed {
             sum |= u128::from(exp) << (16 * var);
         }
         Some(Packed(sum))
+    }
+
+    #[inline]
+    fn exponent(&self, var: u32) -> u16 {
+        (self.0 >> (16 * var)) as u16
+    }
+
+    #[inline]
+    fn over(&self, divisor: &Packed) -> Packed {
+        Packed(self.0 - divisor.0)
     }
 
     #[inline]
@@ -277,6 +308,34 @@ impl Monomial for Keyed {
             }
             n += 1;
         }
+    }
+
+    #[inline]
+    fn exponent(&self, var: u32) -> u16 {
+        if let Some(powers) = &self.listed {
+            return powers.iter().find(|power| power.0 == var).map_or(0, |power| power.1);
+        }
+        self.keys.iter().find(|key| **key != 0 && **key >> 16 == var).map_or(0, |key| *key as u16)
+    }
+
+    #[inline]
+    fn over(&self, divisor: &Keyed) -> Keyed {
+        if self.listed.is_some() {
+            let mut left = Vec::new();
+            self.each_power(|(var, exp)| left.push((var, exp - divisor.exponent(var))));
+            left.retain(|power| power.1 > 0);
+            return Keyed { keys: [0; KEYS], listed: Some(left.into_boxed_slice()) };
+        }
+        let mut keys = [0; KEYS];
+        let mut n = 0;
+        for key in self.keys.iter().take_while(|key| **key != 0) {
+            let less = u32::from(divisor.exponent(key >> 16));
+            if less < key & 0xffff {
+                keys[n & 7] = key - less;
+                n += 1;
+            }
+        }
+        Keyed { keys, listed: None }
     }
 
     #[inline]

@@ -178,3 +178,41 @@ pub fn times<M: Monomial>(l: &[Term<M>], q: &[Term<M>]) -> Result<Vec<Term<M>>, 
     let (front, back) = l.split_at(l.len() / 2);
     squeeze(part(front, q, false)?, part(back, q, false)?)
 }
+
+/// The greatest common divisor of two numbers.
+fn gcd(mut x: u128, mut y: u128) -> u128 {
+    while y != 0 {
+        (x, y) = match (u64::try_from(x), u64::try_from(y)) {
+            (Ok(a), Ok(b)) => (y, u128::from(a % b)),
+            _ => (y, x % y),
+        };
+    }
+    x
+}
+
+/// The greatest common divisor of the coefficients, with the sign of the first.
+fn content<M>(terms: &[Term<M>]) -> i128 {
+    let mut divisor = 0;
+    for term in terms {
+        divisor = gcd(divisor, term.coeff.unsigned_abs());
+        if divisor == 1 {
+            break;
+        }
+    }
+    let negative = terms.first().is_some_and(|term| term.coeff < 0);
+    if negative { -(divisor as i128) } else { divisor as i128 }
+}
+
+/// The primitive part without the variables that are units, as often as each divides.
+pub fn strip<M: Monomial>(terms: &[Term<M>], units: &[u32]) -> Result<Vec<Term<M>>, Fault> {
+    let content = content(terms);
+    let mut unit = M::one();
+    for var in units {
+        let least = terms.iter().map(|term| term.monomial.exponent(*var)).min().unwrap_or(0);
+        if least > 0 {
+            unit = unit.times(&M::power((*var, least))).ok_or(Fault)?;
+        }
+    }
+    let coeff = |coeff: i128| if content == 1 { coeff } else { coeff / content };
+    Ok(terms.iter().map(|term| Term { monomial: term.monomial.over(&unit), coeff: coeff(term.coeff) }).collect())
+}

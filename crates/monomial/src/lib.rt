@@ -254,13 +254,13 @@ impl Monomial {
         requires { Divides divisor.now self.now }
         ensures { IfOk result (λ m. monomial_times divisor.now m ≡ self.now) }
     {
-        if divisor.len() == 0 {
-            return self.copy();
-        }
         if let Some(layout) = self.layout() {
             if let Some(monomial) = self.over_by_words(divisor, &layout) {
                 return Ok(monomial);
             }
+        }
+        if divisor.len() == 0 {
+            return self.copy();
         }
         let powers = self.powers.over(&divisor.powers)?;
         Ok(Monomial { powers })
@@ -272,7 +272,7 @@ impl Monomial {
         requires { Divides divisor.now self.now }
         ensures { IfSome result (λ m. monomial_times divisor.now m ≡ self.now) }
     {
-        let _powers = divisor.len();
+        let _powers = &divisor.powers;
         let word = self.word_in(layout)?;
         let less = divisor.word_in(layout)?;
         Some(Monomial::of_word(self.powers.allocator(), layout, word - less))

@@ -95,6 +95,17 @@ fn lay(terms: &mut [Term], layout: &Layout)
     }
 }
 
+/// The same monomial, stored as a word of the layout of another, where that is stored so and the layout has its variables.
+pub fn stored_as(monomial: Monomial, other: &Monomial) -> Monomial
+    ensures { result ≡ monomial }
+{
+    let mut monomial = monomial;
+    if let Some(layout) = other.layout() {
+        monomial.lay(&layout);
+    }
+    monomial
+}
+
 // The layout of the first term, if it is stored as a word.
 fn stored_layout(terms: &[Term]) -> Option<Layout> {
     match terms.first() {

@@ -1,5 +1,5 @@
 //! What is divided out of a polynomial: its content, and the variables that are units.
-ghost use Rattle.std.specs.Prelude.{◌≡◌, ◌≢◌, ◌≤◌, ℕ, ℤ, pos, ◌*ℤ◌, unsigned_abs, List, [], ◌∷◌, IfOk};
+ghost use Rattle.std.specs.Prelude.{◌≡◌, ◌≢◌, ◌≤◌, ◌%◌, ℕ, ℤ, pos, ◌*ℤ◌, unsigned_abs, List, [], ◌∷◌, IfOk};
 ghost use Rattle.sparse_poly.specs.Polynomials.{variable};
 ghost use Prim.Native.Nat.{◌∣◌};
 ghost use Rattle.std.specs.Int.{IsGcd};
@@ -10,6 +10,7 @@ ghost use Rattle.sparse_poly.specs.Primitive.{DividesAll};
 ghost use Rattle.sparse_poly.specs.Reads.{coefficient_of_power};
 ghost use Rattle.sparse_poly.specs.Factors.{IsCommonDivisor, IsContent, is_member, least_exponent, unit_exponent, unit_powers, IsUnitMonomial, IsQuotient, IsSignedSize, AllDivided};
 
+use crate::layout::stored_as;
 use crate::{Poly, Term};
 use monomial::Monomial;
 use smallvec::SmallVec;
@@ -23,11 +24,22 @@ fn gcd(first: u128, second: u128) -> u128
     let mut a = first;
     let mut b = second;
     'euclid: while b != 0 {
-        let r = a % b;
+        let r = remainder(a, b);
         a = b;
         b = r;
     }
     a
+}
+
+// The remainder of a division, which takes less time where both numbers have 64 bits.
+fn remainder(a: u128, b: u128) -> u128
+    requires { b ≢ 0 }
+    ensures { result ≡ a % b }
+{
+    match (u64::try_from(a), u64::try_from(b)) {
+        (Ok(a), Ok(b)) => u128::from(a % b),
+        _ => a % b,
+    }
 }
 
 // The greatest common divisor of the coefficients, which is 0 where there is none.
@@ -180,7 +192,7 @@ pub fn unit_monomial(alloc: Global, terms: &[Term], units: &[Poly]) -> Result<Mo
     };
     let powers = unit_powers(alloc, terms, units, &leading.monomial)?;
     match Monomial::from_powers(alloc, powers.as_slice()) {
-        Ok(monomial) => Ok(monomial),
+        Ok(monomial) => Ok(stored_as(monomial, &leading.monomial)),
         Err(e) => Err(e),
     }
 }

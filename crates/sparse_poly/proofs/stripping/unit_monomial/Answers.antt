@@ -10,4 +10,4 @@ from_powers-requires c =
 
 pub returns-in-Ok : goal.returns-in-Ok
 returns-in-Ok c =
-    subst (IsUnitMonomial c.args.units.now c.args.terms.now) (sym (c.in-Ok.ensures ∙ c.as_slice.ensures ∙ c.in_ok-powers.ensures)) (IsUnitMonomial-from c.args.units.now c.args.terms.now c.in-Some.leading.now c.in-Some.ensures.value c.requires)
+    subst (IsUnitMonomial c.args.units.now c.args.terms.now) (sym (c.stored_as.ensures ∙ c.in-Ok.ensures ∙ c.as_slice.ensures ∙ c.in_ok-powers.ensures)) (IsUnitMonomial-from c.args.units.now c.args.terms.now c.in-Some.leading.now c.in-Some.ensures.value c.requires)
