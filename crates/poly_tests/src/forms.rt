@@ -148,6 +148,7 @@ fn orders_of_many(rt: HostRuntime) -> Result<(), Fail> {
 #[test]
 fn parts_of_many(rt: HostRuntime) -> Result<(), Fail> {
     let alloc = rt.alloc();
+    assert!(rt; has_quotient(alloc, run_of(5, 3, 5), run_of(5, 2, 4), " 5^1 4^1 3^5")?);
     assert!(rt; has_quotient(alloc, run_of(8, 9, 2), run_of(8, 8, 2), " 0^2")?);
     assert!(rt;
         has_quotient(

@@ -1,5 +1,5 @@
 -- The greatest monomial in variables that are units which divides all terms.
-use Rattle.std.specs.Prelude.{◌≡◌, ◌≢◌, ◌<◌, ◌≤◌, ℕ, zero, suc, ◌^◌, ◌⊎◌, Bool, true, false, ◌||◌, ◌==◌, if◌then◌else◌, nat_lt, min, List, [], ◌∷◌, slice_get, refl}
+use Rattle.std.specs.Prelude.{◌≡◌, ◌≢◌, ◌<◌, ◌≤◌, ℕ, zero, suc, ◌^◌, ◌⊎◌, Bool, true, false, ◌||◌, ◌==◌, if◌then◌else◌, nat_lt, min, ◌↔◌, pos, ◌+◌, List, [], ◌∷◌, length, drop, slice_get, slice_index_or, refl}
 use mathlib.Core.Logic.{inl, inr}
 use Rattle.std.proofs.Common.{arith, sym, ◌∙◌, ap, subst}
 use Rattle.std.proofs.lemmas.Bool.Decides.{nat_tests, eqb_tells}
@@ -14,8 +14,10 @@ use Rattle.sparse_poly.specs.Polynomials.{variable}
 use Rattle.sparse_poly.specs.Contributions.{IsPoly}
 use Rattle.sparse_poly.specs.Order.{poly_cmp}
 use Rattle.sparse_poly.specs.Factors.{is_member, least_exponent, unit_exponent, unit_powers, IsUnitMonomial}
-use Rattle.sparse_poly.proofs.Total.{poly_cmp-IsAntisymmetric, poly_cmp-IsTotalOrder}
+use Rattle.monomial.proofs.Total.{pair_same}
+use Rattle.sparse_poly.proofs.Total.{same_term, poly_cmp-IsAntisymmetric, poly_cmp-IsTotalOrder}
 use Rattle.sparse_poly.proofs.Evaluation.{tied}
+use Rattle.sparse_poly.proofs.Places.{drop_one}
 
 -- membership by the test
 pub contains_later : (units : List (List Term)) (u p : List Term) → Contains units p → Contains (u ∷ units) p
@@ -37,6 +39,39 @@ pub test-from_Contains : (units : List (List Term)) (p : List Term) → Contains
 test-from_Contains [] p (k, l, e) = absurd (omega arith)
 test-from_Contains (u ∷ us) p (zero, l, e) = ap (λ b. b || is_member us p) (ap is_eq (ap (λ x. poly_cmp x p) e ∙ tied_itself poly_cmp-IsTotalOrder p))
 test-from_Contains (u ∷ us) p (suc k, l, e) = ap (λ b. is_eq (poly_cmp u p) || b) (test-from_Contains us p (k, omega arith, e)) ∙ or_true (is_eq (poly_cmp u p))
+
+-- the monomial of one power in which v has the exponent 1
+one_power : (m : List (ℕ × ℕ)) (v : ℕ) → exponent m v ≡ 1 → length m ≡ 1 → m ≡ (v, 1) ∷ []
+one_power [] v e l = absurd (omega (arith, l))
+one_power (p ∷ q ∷ qs) v e l = absurd (omega (arith, l))
+one_power (p ∷ []) v e l = each (eqb_tells p.0 v)
+  where
+    each : ((p.0 == v ≡ true) × (p.0 ≡ v)) ⊎ ((p.0 == v ≡ false) × (p.0 ≢ v)) → p ∷ [] ≡ (v, 1) ∷ []
+    each (inl (t, s)) = ap (λ q. q ∷ []) (pair_same p.0 v p.1 1 s (sym (exponent_here p [] v s) ∙ e))
+    each (inr (t, n)) = absurd (omega (arith, e, exponent_there p [] v n))
+
+-- one term with the coefficient 1 in which v has the exponent 1 is the variable v, if it has one power
+pub one_variable : (ts : List Term) (t : Term) (v n : ℕ) → t ≡ slice_index_or ts 0 t → length ts ≡ 1 → t.coeff ≡ pos 1 → exponent t.monomial v ≡ 1 → n ≡ length t.monomial → (n ≡ 1) ↔ (ts ≡ variable v)
+one_variable [] t v n e l c x s = absurd (omega (arith, l))
+one_variable (u ∷ w ∷ ws) t v n e l c x s = absurd (omega (arith, l))
+one_variable (u ∷ []) t v n e l c x s = (
+  λ k. ap (λ y. y ∷ []) (sym e ∙ same_term t (record { monomial = (v, 1) ∷ []; coeff = pos 1 }) (one_power t.monomial v x (sym s ∙ k)) c),
+  λ f. s ∙ ap (λ (y : Term). length y.monomial) (e ∙ ap (λ ys. slice_index_or ys 0 t) f),
+)
+
+-- what tells whether two polynomials are the same is their comparison
+pub test_is : (b : Bool) (u p : List Term) → (b ≡ true → u ≡ p) → (u ≡ p → b ≡ true) → is_eq (poly_cmp u p) ≡ b
+test_is true u p f g = ap (λ x. is_eq (poly_cmp x p)) (f refl) ∙ ap is_eq (tied_itself poly_cmp-IsTotalOrder p)
+test_is false u p f g =
+    elim (is_eq (poly_cmp u p)) as (λ b. is_eq (poly_cmp u p) ≡ b → b ≡ false) [
+      | true ↦ λ e. absurd (cc (g (poly_cmp-IsAntisymmetric u p (tied _ e))))
+      | false ↦ λ e. refl
+    ] refl
+
+-- past a polynomial that is another
+pub is_member-later : (us : List (List Term)) (i : ℕ) (u p : List Term) → i < length us → u ≡ slice_index_or us i u → is_eq (poly_cmp u p) ≡ false → is_member (drop (i + 1) us) p ≡ is_member (drop i us) p
+is_member-later us i u p l e f =
+    ap (λ b. b || is_member (drop (i + 1) us) p) (sym f) ∙ ap (λ xs. is_member xs p) (ap (λ x. x ∷ drop (i + 1) us) e ∙ sym (drop_one us i u l))
 
 -- the least of a number and the exponents of a variable
 pub least_le : (v n : ℕ) (ts : List Term) → least_exponent v n ts ≤ n

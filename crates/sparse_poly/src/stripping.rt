@@ -1,5 +1,5 @@
 //! What is divided out of a polynomial: its content, and the variables that are units.
-ghost use Rattle.std.specs.Prelude.{◌≡◌, ◌≢◌, ◌≤◌, ◌%◌, ℕ, ℤ, pos, ◌*ℤ◌, unsigned_abs, List, [], ◌∷◌, IfOk};
+ghost use Rattle.std.specs.Prelude.{◌≡◌, ◌≢◌, ◌≤◌, ◌%◌, ℕ, ℤ, pos, ◌*ℤ◌, unsigned_abs, List, [], ◌∷◌, IfOk, IsTrue, ◌↔◌};
 ghost use Rattle.sparse_poly.specs.Polynomials.{variable};
 ghost use Prim.Native.Nat.{◌∣◌};
 ghost use Rattle.std.specs.Int.{IsGcd};
@@ -144,20 +144,43 @@ fn least_exponent(terms: &[Term], power: (u32, u16)) -> u32
     least
 }
 
-// How often the variable of a power divides the terms, if it is a member of the units.
-fn unit_exponent(
-    alloc: Global,
-    terms: &[Term],
-    units: &[Poly],
-    power: (u32, u16),
-) -> Result<u32, AllocError>
-    ensures { IfOk result (λ n. n ≡ unit_exponent units.now terms.now power) }
+// Whether terms are those of a variable.
+fn is_variable(terms: &[Term], var: u32) -> bool
+    ensures { IsTrue result ↔ (terms.now ≡ variable var) }
 {
-    let variable = Poly::variable(alloc, power.0)?;
-    if is_member(units, &variable) {
-        return Ok(least_exponent(terms, power));
+    let [term] = terms else {
+        return false;
+    };
+    if term.coeff != 1 {
+        return false;
     }
-    Ok(0)
+    if term.monomial.exponent(var) != 1 {
+        return false;
+    }
+    term.monomial.len() == 1
+}
+
+// Whether a variable is a member of a list.
+fn has_variable(units: &[Poly], var: u32) -> bool
+    ensures { result ≡ is_member units.now (variable var) }
+{
+    for unit in units {
+        if is_variable(unit.terms(), var) {
+            return true;
+        }
+    }
+    false
+}
+
+// How often the variable of a power divides the terms, if it is a member of the units.
+fn unit_exponent(terms: &[Term], units: &[Poly], power: (u32, u16)) -> u32
+    ensures { result ≡ unit_exponent units.now terms.now power }
+{
+    if has_variable(units, power.0) {
+        least_exponent(terms, power)
+    } else {
+        0
+    }
 }
 
 // The powers of units, of those in a monomial, that divide the terms.
@@ -173,7 +196,7 @@ fn unit_powers(
     let mut i = 0;
     'powers: while i < monomial.len() {
         let power = monomial.power_at(i);
-        let times = unit_exponent(alloc, terms, units, power)?;
+        let times = unit_exponent(terms, units, power);
         if times > 0 {
             left.push((power.0, times as u16))?;
         }
