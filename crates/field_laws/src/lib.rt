@@ -4,7 +4,7 @@
 //! such field: its body is empty, and its contract is the law.
 #![tactic(auto)]
 
-ghost use Rattle.std.specs.Prelude.{◌≡◌, ◌≢◌, ℕ, ◌+◌, ℤ, pos, ◌+ℤ◌, ◌*ℤ◌, neg_ℤ, List, ◌++◌};
+ghost use Rattle.std.specs.Prelude.{◌≡◌, ◌≢◌, ◌⊎◌, ℕ, ◌+◌, ℤ, pos, ◌+ℤ◌, ◌*ℤ◌, neg_ℤ, List, ◌++◌};
 ghost use Rattle.field_laws.specs.Field.{Field, IsField, IsElement, whole, total, power, AllElements};
 ghost use Rattle.field_laws.specs.Rational.{rationals};
 ghost use Rattle.field_laws.specs.RationalLaws.{rational_laws};
@@ -32,6 +32,12 @@ impl CharZeroField for Rationals {
 
     ghost laws = { rational_laws };
 }
+
+/// Two values of a field are equal or not. So each value is zero or not, though a field has no test
+/// of it.
+pub fn decide_law<F: CharZeroField>()
+    ensures { (a b : F.El) → (a ≡ b) ⊎ (a ≢ b) }
+{}
 
 /// In every field the image of a sum of whole numbers is the sum of the images.
 pub fn whole_sum_law<F: CharZeroField>()
@@ -84,5 +90,6 @@ mod tests {
         whole_nonzero_law::<Rationals>();
         total_append_law::<Rationals>();
         power_sum_law::<Rationals>();
+        decide_law::<Rationals>();
     }
 }
