@@ -1,5 +1,5 @@
 -- Counts of faults, and what was moved before a refusal.
-use Rattle.std.specs.Prelude.{◌≡◌, ℕ, ◌+◌, ◌-◌, ◌^◌, ◌≤◌, min, OnErr, List, ◌++◌, Option, length, take}
+use Rattle.std.specs.Prelude.{◌≡◌, ℕ, ◌+◌, ◌-◌, ◌^◌, ◌<◌, ◌≤◌, min, OnErr, List, ◌++◌, Option, length, take}
 use Rattle.std.specs.declared.result.Result.{Result}
 use Rattle.std.specs.Io.KnownBytes.{Consumes, Appends}
 
@@ -20,14 +20,12 @@ TookMore old new limit = (bytes : List ℕ) × Consumes old new bytes × (length
 abbrev pub TookUpTo : Option (List ℕ) → Option (List ℕ) → ℕ → Type 0
 TookUpTo old new most = (bytes : List ℕ) × Consumes old new bytes × (length bytes ≤ most)
 
--- at most one byte more than `limit` was taken
-abbrev pub TookPart : Option (List ℕ) → Option (List ℕ) → ℕ → Type 0
-TookPart old new limit = TookUpTo old new (limit + 1)
-
 -- the bytes that were taken were put behind those that were there before
 abbrev pub Gave : Option (List ℕ) → Option (List ℕ) → List ℕ → List ℕ → Type 0
 Gave old new before now = (bytes : List ℕ) × Consumes old new bytes × (now ≡ before ++ bytes)
 
--- a prefix of the bytes was appended
-abbrev pub WrotePart : Option (List ℕ) → Option (List ℕ) → List ℕ → Type 0
-WrotePart old new bytes = (k : ℕ) × Appends old new (take k bytes)
+-- the first `count` bytes were appended, and these are not all
+pub record WrotePart (old new : Option (List ℕ)) (bytes : List ℕ) : Type 0 where
+  pub count : ℕ
+  pub proper : count < length bytes
+  pub wrote : Appends old new (take count bytes)

@@ -1,12 +1,13 @@
 //! Sources and sinks over the readers and writers of the standard library.
 
-ghost use Rattle.std.specs.Prelude.{◌≡◌, ℕ, ◌<◌, None, Some, IsErr, option_and_then, length};
+ghost use Rattle.std.specs.Prelude.{◌≡◌, ◌≢◌, ℕ, ◌<◌, None, Some, IsErr, IfErr, option_and_then, length};
 ghost use Rattle.std.specs.Io.{ReadsAtMost};
+ghost use Rattle.std.specs.IoError.{error_kind};
 ghost use Rattle.std.specs.Io.KnownBytes.{ReadConsumes};
 ghost use Rattle.braid_io.specs.Causes.{HasCause};
 
 use crate::streams::{Failed, Sink, Source};
-use std::io::{Read, Write};
+use std::io::{self, ErrorKind, Read, Write};
 
 /// A source over any reader, or over none.
 ///
@@ -29,7 +30,7 @@ impl<R: Read> StdSource<R> {
         }
     }
 
-    /// A source that could not be opened: each of its reads fails.
+    /// A source that could not be opened. Each of its reads fails, and it stays unopened.
     pub fn unopened() -> StdSource<R>
         ensures reader { result.reader ≡ None }
         ensures faults { result.faults ≡ 0 }
@@ -46,21 +47,42 @@ impl<R: Read> Source for StdSource<R> {
 
     ghost faults = { λ s. s.faults };
 
+    /// A read that was interrupted is tried again and is no fault.
     fn read(&mut self, into: &mut [u8]) -> Result<usize, Failed>
         requires { 0 < length into.old }
         ensures bound { ReadsAtMost result into.new }
         ensures bytes { ReadConsumes (option_and_then R.remaining self.old.reader) (option_and_then R.remaining self.new.reader) result into.new }
         ensures cause { HasCause self.old.faults self.new.faults result }
-        ensures unopened { self.old.reader ≡ None → IsErr result }
+        ensures unopened { self.old.reader ≡ None → IsErr result × (self.new.reader ≡ None) }
     {
         if let Some(reader) = &mut self.reader {
-            if let Ok(count) = reader.read(into) {
+            if let Ok(count) = read_uninterrupted(reader, into) {
                 return Ok(count);
             }
         }
         self.faults = self.faults.saturating_add(1);
         Err(Failed)
     }
+}
+
+/// One read, tried again where it was interrupted, up to 2^64-1 times in all.
+fn read_uninterrupted<R: Read>(reader: &mut R, into: &mut [u8]) -> io::Result<usize>
+    ensures bound { ReadsAtMost result into.new }
+    ensures bytes { ReadConsumes (R.remaining reader.old) (R.remaining reader.new) result into.new }
+    ensures length { length into.new ≡ length into.old }
+    ensures retried { IfErr result (λ error. error_kind error ≢ ErrorKind.Interrupted) }
+{
+    for _ in 0..u64::MAX {
+        match reader.read(into) {
+            Ok(count) => return Ok(count),
+            Err(error) => {
+                if error.kind() != ErrorKind::Interrupted {
+                    return Err(error);
+                }
+            }
+        }
+    }
+    Err(io::Error::from(ErrorKind::TimedOut))
 }
 
 /// A sink over any writer.

@@ -1,8 +1,8 @@
 //! Reading to the end, and writing all of some bytes.
 
 ghost use Rattle.std.specs.Prelude.{◌≡◌, ◌≢◌, ◌<◌, ◌≤◌, ◌+◌, ℕ, List, length, IfOk, OnOk, OnErr};
-ghost use Rattle.std.specs.Io.KnownBytes.{Consumes, IsAtEnd, Appends};
-ghost use Rattle.braid_io.specs.Causes.{Rose, HasCause, TookMore, TookPart, TookUpTo, Gave, WrotePart};
+ghost use Rattle.std.specs.Io.KnownBytes.{Consumes, IsAtEnd, Appends, Keeps};
+ghost use Rattle.braid_io.specs.Causes.{Rose, HasCause, TookMore, TookUpTo, Gave, WrotePart};
 
 use crate::streams::{Failed, Sink, Source};
 use std::alloc::Global;
@@ -24,15 +24,16 @@ pub enum ReadStop {
 /// Reads to the end. At most `limit + 1` bytes are taken in all.
 ///
 /// `Ok` carries all bytes that the source gave, at most `limit`. Where the source tells its bytes,
-/// these are all that were left, and none is left. `Fault` comes only where the source's faults
-/// rose in this call, and `TooLong` exactly where more than `limit` bytes came before the end.
-/// After a refusal the bytes left are a suffix of those left before.
+/// these are all that were left, and none is left. `TooLong` comes exactly where more than `limit`
+/// bytes came before the end. `Fault` comes only where the source's faults rose in this call, and at
+/// most `limit` bytes came before it. After a refusal the bytes left are a suffix of those left
+/// before.
 pub fn read_all<S: Source>(alloc: Global, source: &mut S, limit: usize) -> Result<Vec<u8>, ReadStop>
     ensures later { S.faults source.old ≤ S.faults source.new }
     ensures all { IfOk result (λ v. Consumes (S.left source.old) (S.left source.new) v.items × IsAtEnd (S.left source.new) × (length v.items ≤ limit)) }
-    ensures fault { result ≡ Err ReadStop.Fault → Rose (S.faults source.old) (S.faults source.new) }
+    ensures fault { result ≡ Err ReadStop.Fault → Rose (S.faults source.old) (S.faults source.new) × TookUpTo (S.left source.old) (S.left source.new) limit }
     ensures long { result ≡ Err ReadStop.TooLong → TookMore (S.left source.old) (S.left source.new) limit }
-    ensures part { OnErr result (TookPart (S.left source.old) (S.left source.new) limit) }
+    ensures part { OnErr result (TookUpTo (S.left source.old) (S.left source.new) (limit + 1)) }
 {
     let mut chunk = [0; CHUNK];
     let mut bytes = Vec::new(alloc);
@@ -59,7 +60,7 @@ fn read_more<S: Source>(
     ensures gave { OnOk result (Gave (S.left source.old) (S.left source.new) bytes.old.items bytes.new.items) }
     ensures count { IfOk result (λ n. (length bytes.new.items ≡ length bytes.old.items + n) × (n ≤ length chunk.old)) }
     ensures end { IfOk result (λ n. n ≡ 0 → IsAtEnd (S.left source.new)) }
-    ensures fault { result ≡ Err ReadStop.Fault → Rose (S.faults source.old) (S.faults source.new) }
+    ensures fault { result ≡ Err ReadStop.Fault → Rose (S.faults source.old) (S.faults source.new) × Keeps (S.left source.old) (S.left source.new) }
     ensures not_long { result ≢ Err ReadStop.TooLong }
     ensures part { OnErr result (TookUpTo (S.left source.old) (S.left source.new) (length chunk.old)) }
 {
@@ -75,7 +76,8 @@ fn read_more<S: Source>(
 /// Writes all of the bytes. It takes no memory itself.
 ///
 /// `Ok` says that exactly these bytes were appended. `Failed` comes only where the sink's faults
-/// rose in this call, and then a prefix of the bytes was appended.
+/// rose in this call, and then a proper prefix of the bytes was appended. So `Ok` comes exactly where
+/// all of the bytes were written.
 pub fn write_all_of<K: Sink>(sink: &mut K, bytes: &[u8]) -> Result<(), Failed>
     ensures cause { HasCause (K.faults sink.old) (K.faults sink.new) result }
     ensures all { OnOk result (Appends (K.written sink.old) (K.written sink.new) bytes.now) }
