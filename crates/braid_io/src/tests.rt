@@ -171,7 +171,7 @@ fn two_writes(alloc: Global, device: Device) -> Result<String, AllocError> {
     format!(in alloc; "{first:?} {second:?}")
 }
 
-fn device(alloc: Global, script: &str) -> Result<Device, AllocError> {
+fn scripted(alloc: Global, script: &str) -> Result<Device, AllocError> {
     Ok(Device {
         script: String::from_str(alloc, script)?,
         next: 0,
@@ -205,18 +205,18 @@ fn devices(rt: HostRuntime) -> Result<(), Fail> {
     is(&rt, &two_reads(alloc, StdSource::unopened())?, failed);
     is(
         &rt,
-        &two_reads(alloc, StdSource::new(device(alloc, "ff")?))?,
+        &two_reads(alloc, StdSource::new(scripted(alloc, "ff")?))?,
         failed,
     );
     is(
         &rt,
-        &two_reads(alloc, StdSource::new(device(alloc, "ii3i0")?))?,
+        &two_reads(alloc, StdSource::new(scripted(alloc, "ii3i0")?))?,
         "Ok(3) Ok(0)",
     );
-    is(&rt, &two_writes(alloc, device(alloc, "0f")?)?, failed);
+    is(&rt, &two_writes(alloc, scripted(alloc, "0f")?)?, failed);
     is(
         &rt,
-        &two_writes(alloc, device(alloc, "33")?)?,
+        &two_writes(alloc, scripted(alloc, "33")?)?,
         "Ok(3) Ok(3)",
     );
     Ok(())
