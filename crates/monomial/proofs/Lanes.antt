@@ -9,7 +9,7 @@ use Rattle.std.proofs.Math.Seq.{take-suc}
 use Rattle.std.specs.List.{AllByRecursion}
 use Rattle.monomial.specs.Layouts.{lane, lanes, AreFalling, monomial_of}
 use Rattle.monomial.specs.Monomials.{exponent}
-use Rattle.monomial.proofs.Words.{more_cases, place_more, own_exponent, other_exponent}
+use Rattle.monomial.proofs.Words.{more_cases, place_more, own_exponent, other_exponent, split, mod_small}
 
 pub lane_below : (w n : ℕ) → lane w n < 65536
 lane_below w n = mod_below (w / 2 ^ (16 * n)) 65536 (omega arith)
@@ -157,3 +157,18 @@ exponent_own n v w h f = ap (λ vs. exponent (monomial_of vs w) (lane v (n - 1))
 
 pub exponent_other : (n v w u : ℕ) → 0 < n → lane v (n - 1) ≢ u → exponent (monomial_of (lanes n v) w) u ≡ exponent (monomial_of (lanes (n - 1) v) w) u
 exponent_other n v w u h e = ap (λ vs. exponent (monomial_of vs w) u) (lanes_first n v h) ∙ other_exponent (lane v (n - 1)) (lanes (n - 1) v) w u e
+
+-- words are told apart by their lanes
+same_lanes : (n a b : ℕ) → lanes n a ≡ lanes n b → a % 2 ^ (16 * n) ≡ b % 2 ^ (16 * n)
+unfolding lanes
+same_lanes zero a b e = one a ∙ sym (one b)
+  where
+    one : (w : ℕ) → w % 1 ≡ 0
+    one w = omega (arith, mod_below w 1 (omega arith))
+same_lanes (suc n) a b e =
+    let first : lane a n ≡ lane b n = cc e in
+    let others : lanes n a ≡ lanes n b = cc e in
+    split a n ∙ ap (λ k. k * 2 ^ (16 * n) + a % 2 ^ (16 * n)) first ∙ ap (λ k. lane b n * 2 ^ (16 * n) + k) (same_lanes n a b others) ∙ sym (split b n)
+
+pub same_word : (n a b : ℕ) → a < 2 ^ (16 * n) → b < 2 ^ (16 * n) → lanes n a ≡ lanes n b → a ≡ b
+same_word n a b l k e = sym (mod_small a (2 ^ (16 * n)) l) ∙ same_lanes n a b e ∙ mod_small b (2 ^ (16 * n)) k

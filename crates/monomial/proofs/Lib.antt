@@ -9,3 +9,4 @@ pub mod Lanes
 pub mod Masks
 pub mod Placings
 pub mod Quotients
+pub mod Greatest

@@ -28,7 +28,7 @@ exp_lower a b xs ys e l h i = record {
   same = λ w l. exponent_there a xs w (λ f. absurd (omega arith)) ∙ exponent_above a.0 xs w h.1 (omega arith) ∙ sym (exponent_there b ys w (λ f. absurd (omega arith)) ∙ exponent_above b.0 ys w i.1 (omega arith));
 }
 
-low_place : (b : ℕ × ℕ) (ys : List (ℕ × ℕ)) (v n : ℕ) → IsBelow b.0 ys → n < exponent ys v → v < b.0
+pub low_place : (b : ℕ × ℕ) (ys : List (ℕ × ℕ)) (v n : ℕ) → IsBelow b.0 ys → n < exponent ys v → v < b.0
 low_place b ys v n i l = elim (nat_lt v b.0) as (λ t. nat_lt v b.0 ≡ t → v < b.0) [
   | true ↦ λ e. grind (arith, nat_tests)
   | false ↦ λ e. let past : b.0 ≤ v = grind (arith, nat_tests) in absurd (omega (arith, exponent_above b.0 ys v i past))

@@ -142,7 +142,7 @@ other_exponent v vs w u n = each (more_cases v vs w)
     each (inr (l, e)) = ap (λ ps. exponent ps u) e
 
 -- the highest exponent and the rest of a word
-split : (w n : ℕ) → w % 2 ^ (16 * suc n) ≡ lane w n * 2 ^ (16 * n) + w % 2 ^ (16 * n)
+pub split : (w n : ℕ) → w % 2 ^ (16 * suc n) ≡ lane w n * 2 ^ (16 * n) + w % 2 ^ (16 * n)
 split w n = ap (λ p. w % p) (higher_place n) ∙ mod-pow-add w 16 (16 * n)
 
 pub mod_small : (a b : ℕ) → a < b → a % b ≡ a

@@ -29,6 +29,11 @@ pub record IsLower (a b : List (ℕ × ℕ)) : Type 0 where
   pub smaller : exponent a at < exponent b at
   pub same : (w : ℕ) → at < w → exponent a w ≡ exponent b w
 
+-- v is the greatest variable at which f, as the exponents of a monomial, is above n
+pub record IsGreatestAbove (n : ℕ) (f : ℕ → ℕ) (v : ℕ) : Type 0 where
+  pub above : n < f v
+  pub greatest : (w : ℕ) → v < w → f w ≤ n
+
 -- the greatest variable
 abbrev pub top : List (ℕ × ℕ) → Option ℕ
 top [] = None

@@ -2,8 +2,10 @@
 ghost use Rattle.std.specs.Prelude.{◌≡◌, ◌<◌, ◌≤◌, ℕ, List, IsTrue, IfSome, map, length, slice_index_or};
 ghost use Rattle.monomial.specs.Monomials.{monomial_cmp, exponent};
 ghost use Rattle.monomial.specs.Layouts.{lane, lanes, monomial_of, IsWordIn, IsLayout};
+ghost use Rattle.monomial.specs.Readings.{form_powers};
 ghost use Rattle.monomial.specs.Keys.{power_of};
 
+use crate::form::Form;
 use crate::keys::Key;
 use crate::layout::{Layout, lane};
 use arrayvec::ArrayVec;
@@ -47,9 +49,14 @@ impl Laid {
         }
     }
 
-    /// The layout.
-    pub fn layout(&self) -> Layout {
-        self.layout.copy()
+    /// The word with its layout.
+    pub fn form(&self) -> Form<'_>
+        ensures { form_powers result ≡ self.now }
+    {
+        Form::Word {
+            layout: &self.layout,
+            word: self.word,
+        }
     }
 
     /// The word in a layout, where that is the layout of this monomial and no exponent is above 32,767.

@@ -54,15 +54,15 @@ impl Layout {
         }
     }
 
-    /// Whether the variables are the same.
-    pub fn is_same(&self, other: &Layout) -> bool
-        ensures { IsTrue result → self.now ≡ other.now }
+    // Whether the variables are the same.
+    pub(crate) fn is_same(&self, other: &Layout) -> bool
+        ensures { IsTrue result ↔ (self.now ≡ other.now) }
     {
         self.variables == other.variables
     }
 
-    /// The word of the variables.
-    pub fn word(&self) -> u128
+    // The word of the variables, sixteen bits each.
+    pub(crate) fn word(&self) -> u128
         ensures value { self.now ≡ lanes 8 result }
         ensures layout { IsLayout self.now }
     {

@@ -5,8 +5,9 @@ ghost use Rattle.std.specs.Prelude.{◌≡◌, ◌<◌, ◌≤◌, ℕ, ◌+◌,
 ghost use Rattle.std.specs.declared.option.Option.TheVariants.{None, Some};
 ghost use Rattle.monomial.specs.Monomials.{monomial_cmp, monomial_times, exponent, top, too_high, Divides, IsMonomial, IsProductOf, IsFaultOf, each_divides, lowered, without};
 ghost use Rattle.monomial.specs.Layouts.{monomial_of, FitsLayout, IsWordIn};
-ghost use Rattle.monomial.specs.Readings.{left_powers};
+ghost use Rattle.monomial.specs.Readings.{left_powers, form_powers};
 
+mod form;
 mod keys;
 mod laid;
 pub mod laws;
@@ -15,9 +16,10 @@ mod powers;
 mod reading;
 
 use arrayvec::ArrayVec;
+pub use form::Form;
 use keys::multiply_keys;
 use laid::Laid;
-pub use laws::{exponents_law, order_law};
+pub use laws::{degree_law, exponents_law, order_law, top_law};
 pub use layout::Layout;
 use layout::lane;
 use powers::{Powers, small};
@@ -125,9 +127,23 @@ impl Monomial {
         }
     }
 
-    /// A layout that has the variables of this monomial, if it is stored as a word.
-    pub fn layout(&self) -> Option<Layout> {
-        self.powers.layout()
+    /// The monomial of the powers that are left to read. It fails only where no memory is left.
+    pub fn of_powers(alloc: Global, powers: PowersLeft<'_>) -> Result<Monomial, AllocError>
+        requires { IsMonomial (left_powers powers) }
+        ensures { IfOk result (λ m. m ≡ left_powers powers.entry) }
+    {
+        Ok(Monomial {
+            powers: powers.stored(alloc)?,
+        })
+    }
+
+    /// This monomial as it is stored.
+    #[inline(always)]
+    pub fn form(&self) -> Form<'_>
+        ensures value { form_powers result ≡ self.now }
+        ensures monomial { IsMonomial self.now }
+    {
+        self.powers.form()
     }
 
     /// The word of this monomial in a layout, and `None` exactly where it has a variable that the layout has not or an exponent above 32,767.
@@ -139,24 +155,6 @@ impl Monomial {
             Some(word) => Some(word),
             None => placed_word(self, layout),
         }
-    }
-
-    /// Stores this monomial as a word in a layout, where it fits.
-    pub fn lay(&mut self, layout: &Layout)
-        ensures { self.new ≡ self.old }
-    {
-        if let Some(word) = self.word_in(layout) {
-            self.powers.lay(Laid::new(layout.copy(), word));
-        }
-    }
-
-    /// An equal monomial that is not stored as a word. It fails only where no memory is left.
-    pub fn without_layout(&self) -> Result<Monomial, AllocError>
-        ensures { IfOk result (λ m. m ≡ self.now) }
-    {
-        Ok(Monomial {
-            powers: self.powers.without_layout()?,
-        })
     }
 
     /// The powers `(variable, exponent)`, to be read from the greatest variable down.
@@ -254,8 +252,8 @@ impl Monomial {
         requires { Divides divisor.now self.now }
         ensures { IfOk result (λ m. monomial_times divisor.now m ≡ self.now) }
     {
-        if let Some(layout) = self.layout() {
-            if let Some(monomial) = self.over_by_words(divisor, &layout) {
+        if let Form::Word { layout, .. } = self.form() {
+            if let Some(monomial) = self.over_by_words(divisor, layout) {
                 return Ok(monomial);
             }
         }

@@ -3,9 +3,10 @@ ghost use Rattle.std.specs.Prelude.{◌≡◌, ◌≢◌, ◌<◌, ◌≤◌, �
 ghost use Rattle.std.specs.declared.option.Option.TheVariants.{None, Some};
 ghost use Rattle.monomial.specs.Monomials.{power_cmp, monomial_cmp, exponent, lowered, IsProductOf, IsFaultOf};
 ghost use Rattle.monomial.specs.Layouts.{IsWordIn};
-ghost use Rattle.monomial.specs.Readings.{left_powers};
+ghost use Rattle.monomial.specs.Readings.{left_powers, form_powers};
 ghost use Rattle.monomial.specs.Keys.{power_of};
 
+use crate::form::Form;
 use crate::keys::{FEW, Key, divide_keys, listed, multiply_keys, order_of_keys, same_keys};
 use crate::laid::Laid;
 use crate::layout::Layout;
@@ -85,18 +86,14 @@ impl Powers {
         }
     }
 
-    /// Puts the powers of a word in the place of these.
-    pub fn lay(&mut self, laid: Laid)
-        ensures { self.new ≡ laid }
+    /// The powers as they are stored.
+    #[inline(always)]
+    pub fn form(&self) -> Form<'_>
+        ensures { form_powers result ≡ self.now }
     {
-        self.stored = Stored::Word(laid);
-    }
-
-    /// The layout of the word that is stored, if one is.
-    pub fn layout(&self) -> Option<Layout> {
         match &self.stored {
-            Stored::Word(laid) => Some(laid.layout()),
-            _ => None,
+            Stored::Word(laid) => laid.form(),
+            _ => Form::Powers(self.powers()),
         }
     }
 
@@ -212,19 +209,6 @@ impl Powers {
             stored,
             alloc: self.alloc,
         })
-    }
-
-    /// The same powers, but not as a word. It fails only where no memory is left.
-    pub fn without_layout(&self) -> Result<Powers, AllocError>
-        ensures { IfOk result (λ p. p ≡ self.now) }
-    {
-        match &self.stored {
-            Stored::Word(laid) => Ok(Powers {
-                stored: Stored::Few(laid.keys()),
-                alloc: self.alloc,
-            }),
-            _ => self.copy(),
-        }
     }
 
     /// The product. `Degree` comes where an exponent is above 65,535, with the greatest such variable.

@@ -1,11 +1,13 @@
 //! Reading the powers of a monomial one after the other.
-ghost use Rattle.std.specs.Prelude.{◌≡◌, ℕ, List, map};
+ghost use Rattle.std.specs.Prelude.{◌≡◌, ℕ, List, map, IfOk};
 ghost use Rattle.std.specs.Iterator.{YieldsFirst, item_count};
 ghost use Rattle.monomial.specs.Keys.{power_of};
 ghost use Rattle.monomial.specs.Readings.{left_powers};
 
-use crate::keys::{Key, key_at};
+use crate::keys::{Key, key_at, same_keys};
+use crate::powers::Powers;
 use arrayvec::ArrayVec;
+use std::alloc::{AllocError, Global};
 
 // The powers that are left, by how they are stored.
 #[derive(Drop)]
@@ -28,7 +30,7 @@ pub struct PowersLeft<'a> {
 impl<'a> PowersLeft<'a> {
     /// The powers of a word, whose keys these are.
     #[inline(always)]
-    pub fn of_word(keys: ArrayVec<Key, 8>) -> PowersLeft<'a>
+    pub(crate) fn of_word(keys: ArrayVec<Key, 8>) -> PowersLeft<'a>
         ensures { left_powers result ≡ map power_of keys.items }
     {
         PowersLeft {
@@ -38,7 +40,7 @@ impl<'a> PowersLeft<'a> {
 
     /// The powers of keys.
     #[inline(always)]
-    pub fn of_keys(keys: &'a [Key]) -> PowersLeft<'a>
+    pub(crate) fn of_keys(keys: &'a [Key]) -> PowersLeft<'a>
         ensures { left_powers result ≡ map power_of keys.now }
     {
         PowersLeft {
@@ -48,12 +50,24 @@ impl<'a> PowersLeft<'a> {
 
     /// The powers of a list.
     #[inline(always)]
-    pub fn of_list(powers: &'a [(u32, u16)]) -> PowersLeft<'a>
+    pub(crate) fn of_list(powers: &'a [(u32, u16)]) -> PowersLeft<'a>
         ensures { left_powers result ≡ powers.now }
     {
         PowersLeft {
             left: Left::Many(powers),
         }
+    }
+
+    // The powers that are left, not as a word. It fails only where no memory is left.
+    pub(crate) fn stored(self, alloc: Global) -> Result<Powers, AllocError>
+        ensures { IfOk result (λ p. p ≡ left_powers self.entry) }
+    {
+        if let Left::Word { keys, place } = &self.left {
+            if *place == 0 {
+                return Ok(Powers::of_keys(alloc, same_keys(keys.as_slice())));
+            }
+        }
+        pushed(alloc, self)
     }
 }
 
@@ -87,4 +101,15 @@ impl<'a> Iterator for PowersLeft<'a> {
             }
         }
     }
+}
+
+// The powers that are left, one after the other.
+fn pushed(alloc: Global, mut left: PowersLeft<'_>) -> Result<Powers, AllocError>
+    ensures { IfOk result (λ p. p ≡ left_powers left.entry) }
+{
+    let mut powers = Powers::new(alloc);
+    'powers: while let Some(power) = left.next() {
+        powers.push(power)?;
+    }
+    Ok(powers)
 }

@@ -6,7 +6,7 @@ use Rattle.monomial.proofs.laid.Laid.word_in.Goals as goal
 pub returns-then-has_small_lanes : goal.returns-then-has_small_lanes
 returns-then-has_small_lanes c =
     let vs = c.self.inside.layout in
-    let same : c.self.inside.layout ≡ c.args.layout.now = c.is_same.ensures c.if-is_same.true in
+    let same : c.self.inside.layout ≡ c.args.layout.now = c.is_same.ensures.0 c.if-is_same.true in
     let most : 2 ^ 128 ≡ 2 ^ (16 * length vs) = ap (λ n. 2 ^ (16 * n)) (sym c.self.invariant.0.eight) in
     let small : (n : ℕ) → n < 8 → lane c.self.inside.word n ≤ 32767 = c.has_small_lanes.ensures c.if-has_small_lanes.true in
     rw (← same, ← c.self.view_is) (record {
