@@ -23,7 +23,7 @@ use Rattle.sparse_poly.specs.Standing.{AllMonomials}
 use Rattle.sparse_poly.specs.Factors.{IsCommonDivisor, HasLeadingSign, IsSignedSize, IsContent, IsQuotient}
 use Rattle.sparse_poly.proofs.Adding.{take_one}
 use Rattle.sparse_poly.proofs.Descending.{all_more}
-use Rattle.sparse_poly.proofs.Total.{same_term}
+use Rattle.sparse_poly.specs.OrderLaws.{same_term}
 use Rattle.sparse_poly.proofs.PrimitiveParts.{some_size, all_weaker, swap}
 
 -- what has a divisor's multiples between it and a smaller one
@@ -44,7 +44,7 @@ small_multiple r d y e l =
     times_zero n = omega arith
 
 -- a remainder of what divides
-no_remainder : (d q r a m : ℤ) → (q *ℤ d) +ℤ r ≡ a → (a ≡ d *ℤ m) ⊎ (a ≡ neg_ℤ (d *ℤ m)) → unsigned_abs r < unsigned_abs d → r ≡ pos 0
+pub no_remainder : (d q r a m : ℤ) → (q *ℤ d) +ℤ r ≡ a → (a ≡ d *ℤ m) ⊎ (a ≡ neg_ℤ (d *ℤ m)) → unsigned_abs r < unsigned_abs d → r ≡ pos 0
 no_remainder d q r a m e (inl f) l =
     let split : d *ℤ m ≡ (d *ℤ (m +ℤ neg_ℤ q)) +ℤ (d *ℤ q) = ap (λ z. d *ℤ z) (back m q) ∙ *ℤ-+ℤ d (m +ℤ neg_ℤ q) q in
     small_multiple r d (m +ℤ neg_ℤ q) (ap unsigned_abs (same (q *ℤ d) (d *ℤ q) r a (d *ℤ m) (d *ℤ (m +ℤ neg_ℤ q)) (*ℤ_comm q d) e f split)) l

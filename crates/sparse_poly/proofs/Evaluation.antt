@@ -69,17 +69,17 @@ others-apart m k (t ∷ ts) h = elim (is_of m t) as (λ b. is_of m t ≡ b → c
 ] refl
 
 -- lists with the same sums keep them where the terms of one monomial are left out
-others-same : (m : List (ℕ × ℕ)) (ts us : List Term) → ((k : List (ℕ × ℕ)) → coefficient ts k ≡ coefficient us k) → (k : List (ℕ × ℕ)) → coefficient (others m ts) k ≡ coefficient (others m us) k
+pub others-same : (m : List (ℕ × ℕ)) (ts us : List Term) → ((k : List (ℕ × ℕ)) → coefficient ts k ≡ coefficient us k) → (k : List (ℕ × ℕ)) → coefficient (others m ts) k ≡ coefficient (others m us) k
 others-same m ts us h k = elim (is_eq (monomial_cmp k m)) as (λ b. is_eq (monomial_cmp k m) ≡ b → coefficient (others m ts) k ≡ coefficient (others m us) k) [
   | true ↦ λ e. let same : k ≡ m = monomial_cmp-IsAntisymmetric k m (tied _ e) in ap (coefficient (others m ts)) same ∙ others-own m ts ∙ sym (others-own m us) ∙ sym (ap (coefficient (others m us)) same)
   | false ↦ λ e. others-apart m k ts e ∙ h k ∙ sym (others-apart m k us e)
 ] refl
 
-others-short : (m : List (ℕ × ℕ)) (ts : List Term) → length (others m ts) ≤ length ts
+pub others-short : (m : List (ℕ × ℕ)) (ts : List Term) → length (others m ts) ≤ length ts
 others-short m [] = omega arith
 others-short m (t ∷ ts) = let h = others-short m ts in elim (is_of m t) as (λ b. length (if b then others m ts else t ∷ others m ts) ≤ length (t ∷ ts)) [ true ↦ omega arith | false ↦ omega arith ]
 
-others-first : (t : Term) (ts : List Term) → others t.monomial (t ∷ ts) ≡ others t.monomial ts
+pub others-first : (t : Term) (ts : List Term) → others t.monomial (t ∷ ts) ≡ others t.monomial ts
 others-first t ts = ap (λ b. if b then others t.monomial ts else t ∷ others t.monomial ts) (is_of-own t)
 
 pub listed_is : {E : Type 0} (f : Field E) → IsField f → (s : List E) → AllElements f s → (v : ℕ) → IsElement f (slice_index_or s v f.zero)

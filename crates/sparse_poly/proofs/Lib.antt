@@ -1,4 +1,3 @@
-pub mod Total
 pub mod Ordered
 pub mod Evaluation
 pub mod Adding
@@ -21,3 +20,11 @@ pub mod Places
 pub mod Packings
 pub mod PackedTerms
 pub mod PackedSources
+pub mod OneQuotient
+pub mod Divisions
+pub mod LongDivision
+pub mod Trailing
+pub mod InForm
+pub mod UnitOne
+pub mod ProductSums
+pub mod Clearings

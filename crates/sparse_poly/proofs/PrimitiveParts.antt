@@ -13,7 +13,7 @@ use Rattle.field_laws.specs.Gcd.{IsGcd-gcd, IsGcd-scaled_within}
 use Rattle.sparse_poly.specs.declared.Term.{Term}
 use Rattle.sparse_poly.specs.Polynomials.{scaled}
 use Rattle.sparse_poly.specs.Primitive.{DividesAll, IsPrimitive, IsPrimitivePart}
-use Rattle.sparse_poly.proofs.Total.{same_term}
+use Rattle.sparse_poly.specs.OrderLaws.{same_term}
 
 -- the greatest common divisor of the coefficients
 pub content : List Term → ℕ

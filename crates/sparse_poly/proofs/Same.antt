@@ -12,7 +12,7 @@ use Rattle.sparse_poly.specs.declared.Term.{Term}
 use Rattle.sparse_poly.specs.Polynomials.{is_of, coefficient, IsSum}
 use Rattle.sparse_poly.specs.Contributions.{IsFalling, IsPoly}
 use Rattle.sparse_poly.proofs.Evaluation.{zero_plus, is_of-own}
-use Rattle.sparse_poly.proofs.Total.{same_term}
+use Rattle.sparse_poly.specs.OrderLaws.{same_term}
 use Rattle.sparse_poly.proofs.Descending.{all_map}
 
 -- no coefficient at a monomial above all terms

@@ -14,20 +14,19 @@ use Rattle.sparse_poly.specs.Polynomials.{coefficient, row, products, scaled, co
 use Rattle.sparse_poly.specs.Contributions.{IsFalling, IsPoly}
 use Rattle.sparse_poly.specs.Primitive.{IsPrimitivePart}
 use Rattle.sparse_poly.specs.Standing.{AllMonomials}
-use Rattle.sparse_poly.specs.Factors.{is_member, HasLeadingSign, IsContent, IsUnitMonomial, IsQuotient}
-use Rattle.sparse_poly.specs.Units.{IsStripped, IsOneOrMember, IsUnit}
-use Rattle.sparse_poly.proofs.Total.{same_term}
+use Rattle.sparse_poly.specs.Factors.{HasLeadingSign, IsContent, IsUnitMonomial, IsQuotient}
+use Rattle.sparse_poly.specs.Units.{IsStripped, IsOneOrMember}
+use Rattle.sparse_poly.specs.OrderLaws.{same_term}
 use Rattle.sparse_poly.proofs.Same.{same_falling}
 use Rattle.sparse_poly.proofs.PrimitiveParts.{same_primitive, cancel_factor}
 use Rattle.sparse_poly.proofs.Contents.{content_nonzero, IsPoly-quotient, IsPrimitive-quotient}
-use Rattle.sparse_poly.proofs.UnitMonomials.{Contains-from_test, test-from_Contains}
 use Rattle.std.proofs.lemmas.List.{append-nil}
 
 -- the product of one term with a polynomial
 pub products-one : (t : Term) (us : List Term) → products (t ∷ []) us ≡ row t us
 products-one t us = append-nil (row t us)
 
-no_row : (t : Term) (us : List Term) → row t us ≡ [] → us ≡ []
+pub no_row : (t : Term) (us : List Term) → row t us ≡ [] → us ≡ []
 no_row t [] e = refl
 no_row t (u ∷ us) e = absurd (cc e)
 
@@ -80,7 +79,7 @@ IsStripped-from units ts g c qs fs p h u q e = subst (λ xs. IsStripped units ts
     one_sign z = subst (HasLeadingSign c) z h.sign
 
 -- there is one rest
-row_falls : (t : Term) (us : List Term) → IsPowers t.monomial → AllMonomials us → IsFalling us → IsFalling (row t us)
+pub row_falls : (t : Term) (us : List Term) → IsPowers t.monomial → AllMonomials us → IsFalling us → IsFalling (row t us)
 row_falls t [] g h f = tt
 row_falls t (u ∷ us) g h f = (below t u us g h.0 h.1 f.0, row_falls t us g h.1 f.1)
   where
@@ -88,11 +87,11 @@ row_falls t (u ∷ us) g h f = (below t u us g h.0 h.1 f.0, row_falls t us g h.1
     below t u [] g h i a = tt
     below t u (v ∷ vs) g h i a = (monomial_cmp-times t.monomial v.monomial u.monomial g i.0.powers h.powers a.0, below t u vs g h i.1 a.1)
 
-row_apart : (t : Term) (us : List Term) → t.coeff ≢ pos 0 → AllByRecursion (λ (v : Term). v.coeff ≢ pos 0) us → AllByRecursion (λ (v : Term). v.coeff ≢ pos 0) (row t us)
+pub row_apart : (t : Term) (us : List Term) → t.coeff ≢ pos 0 → AllByRecursion (λ (v : Term). v.coeff ≢ pos 0) us → AllByRecursion (λ (v : Term). v.coeff ≢ pos 0) (row t us)
 row_apart t [] n a = tt
 row_apart t (u ∷ us) n a = (λ z. a.0 (cancel_factor t.coeff u.coeff (pos 0) n (z ∙ sym (*ℤ-zero t.coeff))), row_apart t us n a.1)
 
-row_of_stripped : (units : List (List Term)) (p : List Term) (t : Term) (r : List Term) → IsPoly p → IsStripped units p (t ∷ []) r → row t r ≡ p
+pub row_of_stripped : (units : List (List Term)) (p : List Term) (t : Term) (r : List Term) → IsPoly p → IsStripped units p (t ∷ []) r → row t r ≡ p
 row_of_stripped units p t r h s =
     same_falling (row t r) p (row_falls t r s.factor_poly.monomials.0.powers s.rest_poly.monomials s.rest_poly.falling) (row_apart t r s.factor_poly.apart.0 s.rest_poly.apart) h.falling h.apart
     (λ m. ap (λ us. coefficient us m) (sym (products-one t r)) ∙ sym (s.product m))
@@ -106,7 +105,7 @@ member_of units (q ∷ qs) v h l = either (λ k. member_of units qs v h.1 k) (eq
     either rest (inl (t, g)) = subst (λ u. Contains units (variable u)) g h.0
     either rest (inr (t, n)) = rest (omega (arith, l, exponent_there q qs v n))
 
-rows_first : (t t' u u' : Term) (us us' : List Term) → row t (u ∷ us) ≡ row t' (u' ∷ us') → (monomial_times t.monomial u.monomial ≡ monomial_times t'.monomial u'.monomial) × (t.coeff *ℤ u.coeff ≡ t'.coeff *ℤ u'.coeff) × (row t us ≡ row t' us')
+pub rows_first : (t t' u u' : Term) (us us' : List Term) → row t (u ∷ us) ≡ row t' (u' ∷ us') → (monomial_times t.monomial u.monomial ≡ monomial_times t'.monomial u'.monomial) × (t.coeff *ℤ u.coeff ≡ t'.coeff *ℤ u'.coeff) × (row t us ≡ row t' us')
 rows_first t t' u u' us us' e =
     let a : Term = record { monomial = monomial_times t.monomial u.monomial; coeff = t.coeff *ℤ u.coeff } in
     let b : Term = record { monomial = monomial_times t'.monomial u'.monomial; coeff = t'.coeff *ℤ u'.coeff } in
@@ -139,7 +138,7 @@ no_more units p t t' r r' s s' e n v =
     not_less a b f = grind (arith, nat_tests)
 
 -- what is left of one monomial
-monomial_cancel : (g m n : List (ℕ × ℕ)) → IsPowers g → IsPowers m → IsPowers n → monomial_times g m ≡ monomial_times g n → m ≡ n
+pub monomial_cancel : (g m n : List (ℕ × ℕ)) → IsPowers g → IsPowers m → IsPowers n → monomial_times g m ≡ monomial_times g n → m ≡ n
 monomial_cancel g m n h i j e =
     same_from_exponents m n i j (λ v. omega (arith, ap (λ k. exponent k v) e, exponent-times g m v h i, exponent-times g n v h j))
 
@@ -172,16 +171,10 @@ one_rest units p (t ∷ []) r [] r' h s s' = absurd s'.out
 one_rest units p (t ∷ []) r (t' ∷ u' ∷ us') r' h s s' = absurd s'.out
 one_rest units p (t ∷ []) r (t' ∷ []) r' h s s' = one_rest_of units p t t' r r' s s' (row_of_stripped units p t r h s ∙ sym (row_of_stripped units p t' r' h s'))
 
--- units by their rest
-pub IsUnit-by_rest : (units : List (List Term)) (p f r : List Term) (b : Bool) → IsPoly p → IsStripped units p f r → (IsTrue b → IsOneOrMember units r) × (IsOneOrMember units r → IsTrue b) → (IsTrue b → IsUnit units p) × (IsUnit units p → IsTrue b)
-IsUnit-by_rest units p f r b h s t = (
-  λ i. record { factor = f; rest = r; stripped = s; member = t.0 i },
-  λ u. t.1 (subst (IsOneOrMember units) (one_rest units p u.factor u.rest f r h u.stripped s) u.member),
-)
-
-pub IsOneOrMember-test : (units : List (List Term)) (r : List Term) (b : Bool) → b ≡ is_member units r → (r ≡ constant (pos 1) → ⊥) → (IsTrue b → IsOneOrMember units r) × (IsOneOrMember units r → IsTrue b)
-IsOneOrMember-test units r b e n = (λ t. inr (Contains-from_test units r (sym e ∙ t)), λ m. either m)
+-- the constant 1 or a member, by tests
+pub IsOneOrMember-test : (units : List (List Term)) (r : List Term) (b : Bool) → (IsTrue b → Contains units r) × (Contains units r → IsTrue b) → (r ≡ constant (pos 1) → ⊥) → (IsTrue b → IsOneOrMember units r) × (IsOneOrMember units r → IsTrue b)
+IsOneOrMember-test units r b e n = (λ t. inr (e.0 t), λ m. either m)
   where
     either : IsOneOrMember units r → IsTrue b
     either (inl o) = absurd (n o)
-    either (inr m) = e ∙ test-from_Contains units r m
+    either (inr m) = e.1 m

@@ -1,9 +1,10 @@
 -- The greatest monomial in variables that are units which divides all terms.
-use Rattle.std.specs.Prelude.{◌≡◌, ◌≢◌, ◌<◌, ◌≤◌, ℕ, zero, suc, ◌^◌, ◌⊎◌, Bool, true, false, ◌||◌, ◌==◌, if◌then◌else◌, nat_lt, min, ◌↔◌, pos, ◌+◌, List, [], ◌∷◌, length, drop, slice_get, slice_index_or, refl}
+use Rattle.std.specs.Prelude.{◌≡◌, ◌≢◌, ◌<◌, ◌≤◌, ℕ, zero, suc, ◌^◌, ◌⊎◌, Bool, true, false, ◌||◌, ◌==◌, if◌then◌else◌, nat_lt, min, ◌↔◌, pos, ◌+◌, List, [], ◌∷◌, length, drop, slice_get, slice_index_or, IsTrue, refl}
 use mathlib.Core.Logic.{inl, inr}
 use Rattle.std.proofs.Common.{arith, sym, ◌∙◌, ap, subst}
 use Rattle.std.proofs.lemmas.Bool.Decides.{nat_tests, eqb_tells}
 use Rattle.std.specs.List.{AllByRecursion, Contains}
+use Rattle.std.specs.declared.cmp.Ordering.TheVariants.{Equal}
 use Rattle.std.specs.Ordering.{is_eq}
 use Rattle.std.specs.Cmp.{tied_itself}
 use Rattle.std.specs.declared.option.Option.TheVariants.{Some}
@@ -15,7 +16,7 @@ use Rattle.sparse_poly.specs.Contributions.{IsPoly}
 use Rattle.sparse_poly.specs.Order.{poly_cmp}
 use Rattle.sparse_poly.specs.Factors.{is_member, least_exponent, unit_exponent, unit_powers, IsUnitMonomial}
 use Rattle.monomial.proofs.Total.{pair_same}
-use Rattle.sparse_poly.proofs.Total.{same_term, poly_cmp-IsAntisymmetric, poly_cmp-IsTotalOrder}
+use Rattle.sparse_poly.specs.OrderLaws.{same_term, poly_cmp-IsAntisymmetric, poly_cmp-IsTotalOrder}
 use Rattle.sparse_poly.proofs.Evaluation.{tied}
 use Rattle.sparse_poly.proofs.Places.{drop_one}
 
@@ -39,6 +40,9 @@ pub test-from_Contains : (units : List (List Term)) (p : List Term) → Contains
 test-from_Contains [] p (k, l, e) = absurd (omega arith)
 test-from_Contains (u ∷ us) p (zero, l, e) = ap (λ b. b || is_member us p) (ap is_eq (ap (λ x. poly_cmp x p) e ∙ tied_itself poly_cmp-IsTotalOrder p))
 test-from_Contains (u ∷ us) p (suc k, l, e) = ap (λ b. is_eq (poly_cmp u p) || b) (test-from_Contains us p (k, omega arith, e)) ∙ or_true (is_eq (poly_cmp u p))
+
+pub is_contained : (units : List (List Term)) (p : List Term) (b : Bool) → b ≡ is_member units p → (IsTrue b → Contains units p) × (Contains units p → IsTrue b)
+is_contained units p b e = (λ t. Contains-from_test units p (sym e ∙ t), λ m. e ∙ test-from_Contains units p m)
 
 -- the monomial of one power in which v has the exponent 1
 one_power : (m : List (ℕ × ℕ)) (v : ℕ) → exponent m v ≡ 1 → length m ≡ 1 → m ≡ (v, 1) ∷ []
@@ -69,6 +73,10 @@ test_is false u p f g =
     ] refl
 
 -- past a polynomial that is another
+pub is_member-here : (us : List (List Term)) (i : ℕ) (u p : List Term) → i < length us → u ≡ slice_index_or us i u → poly_cmp u p ≡ Equal → is_member (drop i us) p ≡ true
+is_member-here us i u p l e f =
+    ap (λ xs. is_member xs p) (drop_one us i u l ∙ ap (λ x. x ∷ drop (i + 1) us) (sym e)) ∙ ap (λ o. is_eq o || is_member (drop (i + 1) us) p) f
+
 pub is_member-later : (us : List (List Term)) (i : ℕ) (u p : List Term) → i < length us → u ≡ slice_index_or us i u → is_eq (poly_cmp u p) ≡ false → is_member (drop (i + 1) us) p ≡ is_member (drop i us) p
 is_member-later us i u p l e f =
     ap (λ b. b || is_member (drop (i + 1) us) p) (sym f) ∙ ap (λ xs. is_member xs p) (ap (λ x. x ∷ drop (i + 1) us) e ∙ sym (drop_one us i u l))

@@ -8,3 +8,7 @@ pub mod Standing
 pub mod Factors
 pub mod Packing
 pub mod Packed
+pub mod Clearing
+pub mod Dividing
+pub mod OrderLaws
+pub mod Hashing

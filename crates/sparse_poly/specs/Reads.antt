@@ -1,5 +1,5 @@
 -- What is read from a polynomial: its degree in a variable, its greatest variable, and its coefficient of a power of a variable.
-use Rattle.std.specs.Prelude.{ℕ, max, if◌then◌else◌, ◌==◌, List, [], ◌∷◌}
+use Rattle.std.specs.Prelude.{◌≢◌, ℕ, max, if◌then◌else◌, ◌==◌, List, [], ◌∷◌, All, AllPairs}
 use Rattle.std.specs.declared.option.Option.{Option}
 use Rattle.std.specs.declared.option.Option.TheVariants.{None}
 use Rattle.monomial.specs.Monomials.{exponent, top, without}
@@ -20,3 +20,12 @@ main_variable (t ∷ ts) = higher (top t.monomial) (main_variable ts)
 abbrev pub coefficient_of_power : ℕ → ℕ → List Term → List Term
 coefficient_of_power v k [] = []
 coefficient_of_power v k (t ∷ ts) = if exponent t.monomial v == k then record { monomial = without v t.monomial; coeff = t.coeff } ∷ coefficient_of_power v k ts else coefficient_of_power v k ts
+
+-- the coefficient of the highest power of a variable
+abbrev pub leading_in : ℕ → List Term → List Term
+leading_in v p = coefficient_of_power v (degree_in v p) p
+
+-- no member is constant, and main variables differ
+pub record HaveMainVariables (list : List (List Term)) : Type 0 where
+  pub varied : All (λ (p : List Term). main_variable p ≢ None) list
+  pub apart : AllPairs (λ (p q : List Term). main_variable p ≢ main_variable q) list

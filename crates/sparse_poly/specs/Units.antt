@@ -29,13 +29,6 @@ pub record IsStripped (units : List (List Term)) (p factor rest : List Term) : T
 abbrev pub IsOneOrMember : List (List Term) → List Term → Type 0
 IsOneOrMember units rest = (rest ≡ constant (pos 1)) ⊎ Contains units rest
 
--- p is a unit: its rest is the constant 1 or a member of the units
-pub record IsUnit (units : List (List Term)) (p : List Term) : Type 0 where
-  pub factor : List Term
-  pub rest : List Term
-  pub stripped : IsStripped units p factor rest
-  pub member : IsOneOrMember units rest
-
 -- no unit vanishes at s
 abbrev pub AllNonzero : {E : Type 0} → Field E → List E → List (List Term) → Type 0
 AllNonzero f s units = AllByRecursion (λ (u : List Term). eval f s u ≢ f.zero) units

@@ -2,7 +2,7 @@
 //!
 //! A list of terms stands for the map `coefficient` from monomials to whole numbers, and `IsSum r cs` says that r has the map of cs. The laws of
 //! values have no bound on coefficients and exponents and no order of the terms: `p ++ q` is the sum of two, `products p q` their product.
-ghost use Rattle.std.specs.Prelude.{◌≡◌, ◌≢◌, ◌↔◌, ◌++◌, ◌+ℤ◌, neg_ℤ};
+ghost use Rattle.std.specs.Prelude.{◌≡◌, ◌≢◌, ◌↔◌, ◌++◌, ◌+ℤ◌, neg_ℤ, []};
 ghost use Rattle.std.specs.Cmp.{IsTotalOrder};
 ghost use Rattle.std.specs.FinMap.{IsAntisymmetric};
 ghost use Rattle.field_laws.specs.Field.{AllElements};
@@ -10,7 +10,8 @@ ghost use Rattle.sparse_poly.specs.Polynomials.{coefficient, eval, products, neg
 ghost use Rattle.sparse_poly.specs.Contributions.{IsPoly};
 ghost use Rattle.sparse_poly.specs.Order.{poly_cmp};
 ghost use Rattle.sparse_poly.specs.Primitive.{IsPrimitivePart};
-ghost use Rattle.sparse_poly.specs.Units.{IsStripped, IsUnit, AllNonzero};
+ghost use Rattle.sparse_poly.specs.Clearing.{DividesOpenly, IsCleared, IsUnit};
+ghost use Rattle.sparse_poly.specs.Units.{IsStripped, AllNonzero};
 
 use field_laws::CharZeroField;
 
@@ -66,4 +67,22 @@ pub fn unit_law<F: CharZeroField>()
 /// The value of a polynomial is that of its factor times that of its rest.
 pub fn strip_law<F: CharZeroField>()
     ensures { (s : _) (units : _) (p factor rest : _) → AllElements F.field s → IsStripped units p factor rest → eval F.field s p ≡ F.field.times (eval F.field s factor) (eval F.field s rest) }
+{}
+
+/// The value of a polynomial is that of its factor times that of its rest, once it is cleared.
+pub fn clear_law<F: CharZeroField>()
+    ensures { (s : _) (units : _) (p factor rest : _) → AllElements F.field s → IsCleared units p factor rest → eval F.field s p ≡ F.field.times (eval F.field s factor) (eval F.field s rest) }
+{}
+
+/// There is one quotient, one strip and one clearing of a polynomial.
+pub fn one_clearing_law()
+    ensures quotient { (n p g h : _) → IsPoly n → n ≢ [] → DividesOpenly n p g → DividesOpenly n p h → g ≡ h }
+    ensures strip { (units : _) (p f r f' r' : _) → IsPoly p → IsStripped units p f r → IsStripped units p f' r' → (f ≡ f') × (r ≡ r') }
+    ensures clearing { (units : _) (p f r f' r' : _) → IsPoly p → IsCleared units p f r → IsCleared units p f' r' → (f ≡ f') × (r ≡ r') }
+{}
+
+/// What is divided out of a polynomial times the rest is the polynomial, by its coefficients, and both are polynomials.
+pub fn clearing_product_law()
+    ensures product { (units : _) (p factor rest : _) → IsCleared units p factor rest → IsSum p (products factor rest) }
+    ensures polynomials { (units : _) (p factor rest : _) → IsCleared units p factor rest → IsPoly factor × IsPoly rest }
 {}

@@ -5,7 +5,7 @@ ghost use Rattle.sparse_poly.specs.Packing.{AllFit};
 
 use crate::Term;
 use arrayvec::ArrayVec;
-use monomial::{Layout, Monomial};
+use monomial::{Form, Layout, Monomial};
 use std::alloc::{AllocError, Global};
 
 /// The layout for `l*q - a*p`, and `None` where words don't serve: where more than eight variables occur or one from 65,536 on, an exponent is
@@ -49,7 +49,7 @@ pub fn laid(alloc: Global, terms: Vec<Term>) -> Vec<Term>
     }
     let mut terms = terms;
     if let Some(layout) = common_layout(alloc, &terms, &[], &[], &[]) {
-        lay(&mut terms, &layout);
+        lay(alloc, &mut terms, &layout);
     }
     terms
 }
@@ -78,39 +78,65 @@ pub fn without_layout(alloc: Global, terms: &[Term]) -> Result<Vec<Term>, AllocE
 {
     let mut listed = Vec::with_capacity(alloc, terms.len())?;
     for term in terms {
+        let monomial = listed_powers(alloc, &term.monomial)?;
         listed.push(Term {
-            monomial: term.monomial.without_layout()?,
+            monomial,
             coeff: term.coeff,
         })?;
     }
     Ok(listed)
 }
 
+// The same monomial, not stored as a word.
+fn listed_powers(alloc: Global, monomial: &Monomial) -> Result<Monomial, AllocError>
+    ensures { IfOk result (λ m. m ≡ monomial.now) }
+{
+    match monomial.form() {
+        Form::Word { .. } => Monomial::of_powers(alloc, monomial.powers()),
+        Form::Powers(_) => monomial.copy(),
+    }
+}
+
 // Stores the monomials of terms as words of a layout, where they fit.
-fn lay(terms: &mut [Term], layout: &Layout)
+fn lay(alloc: Global, terms: &mut [Term], layout: &Layout)
     ensures { terms.new ≡ terms.old }
 {
     for term in terms {
-        term.monomial.lay(layout);
+        if let Some(word) = as_word(alloc, &term.monomial, layout) {
+            term.monomial = word;
+        }
     }
+}
+
+// The same monomial, stored as a word of a layout, if it fits.
+#[inline(always)]
+fn as_word(alloc: Global, monomial: &Monomial, layout: &Layout) -> Option<Monomial>
+    ensures { IfSome result (λ m. m ≡ monomial.now) }
+{
+    let _form = monomial.form();
+    let word = monomial.word_in(layout)?;
+    Some(Monomial::of_word(alloc, layout, word))
 }
 
 /// The same monomial, stored as a word of the layout of another, where that is stored so and the layout has its variables.
-pub fn stored_as(monomial: Monomial, other: &Monomial) -> Monomial
+pub fn stored_as(alloc: Global, monomial: Monomial, other: &Monomial) -> Monomial
     ensures { result ≡ monomial }
 {
-    let mut monomial = monomial;
-    if let Some(layout) = other.layout() {
-        monomial.lay(&layout);
+    let Form::Word { layout, .. } = other.form() else {
+        return monomial;
+    };
+    match as_word(alloc, &monomial, layout) {
+        Some(word) => word,
+        None => monomial,
     }
-    monomial
 }
 
 // The layout of the first term, if it is stored as a word.
+#[inline(always)]
 fn stored_layout(terms: &[Term]) -> Option<Layout> {
-    match terms.first() {
-        Some(term) => term.monomial.layout(),
-        None => None,
+    match terms.first()?.monomial.form() {
+        Form::Word { layout, .. } => Some(layout.copy()),
+        Form::Powers(_) => None,
     }
 }
 
@@ -130,7 +156,7 @@ fn all_fit(layout: &Layout, terms: &[Term]) -> bool
     ensures layout { IsTrue result → IsLayout layout.now }
     ensures fit { IsTrue result → AllFit layout.now terms.now }
 {
-    let _variables = layout.word();
+    let _layout = layout.copy();
     for term in terms {
         let Some(_) = term.monomial.word_in(layout) else {
             return false;
@@ -186,14 +212,14 @@ impl Occurring {
                 return true;
             }
         }
-        let Some(layout) = monomial.layout() else {
+        let Form::Word { layout, .. } = monomial.form() else {
             return self.note_powers(monomial);
         };
-        let Some(word) = monomial.word_in(&layout) else {
+        let Some(word) = monomial.word_in(layout) else {
             return false;
         };
         let noted = self.note_last(alloc);
-        self.last = Some(layout);
+        self.last = Some(layout.copy());
         self.bits = word;
         noted
     }

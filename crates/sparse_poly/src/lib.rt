@@ -1,22 +1,28 @@
 //! Polynomials in several variables with whole coefficients, seen as finite maps from monomials to coefficients.
 #![tactic(auto)]
 
-ghost use Rattle.std.specs.Prelude.{◌≡◌, ◌<◌, ◌≤◌, ℕ, ◌+◌, ℤ, pos, unsigned_abs, Bool, IsTrue, ◌↔◌, List, [], ◌∷◌, ◌++◌, IfOk, IfErr, MatchOption, MatchResult, IsSome};
+ghost use Rattle.std.specs.Prelude.{◌≡◌, ◌≢◌, ◌<◌, ◌≤◌, ℕ, ◌+◌, ℤ, pos, unsigned_abs, Bool, IsTrue, ◌↔◌, List, [], ◌∷◌, ◌++◌, IfOk, IfErr, MatchOption, MatchResult, IsSome};
 ghost use Rattle.std.specs.List.{Contains};
 ghost use Rattle.std.specs.declared.option.Option.TheVariants.{None, Some};
+ghost use Rattle.sparse_poly.specs.declared.Term.{Term};
 ghost use Rattle.sparse_poly.specs.Polynomials.{products, constant, variable};
 ghost use Rattle.sparse_poly.specs.Contributions.{max_coeff, contributions, IsPoly, IsResult, IsFault, IsNoDegree};
 ghost use Rattle.sparse_poly.specs.Order.{poly_cmp, term_cmp};
 ghost use Rattle.sparse_poly.specs.Primitive.{IsPrimitivePart};
-ghost use Rattle.sparse_poly.specs.Units.{IsStripped, IsOneOrMember, IsUnit};
+ghost use Rattle.sparse_poly.specs.Units.{IsStripped, IsOneOrMember};
+ghost use Rattle.sparse_poly.specs.Clearing.{DividesOpenly, IsCleared, IsUnit};
 ghost use Rattle.sparse_poly.specs.Reads.{degree_in, main_variable, coefficient_of_power};
 
+mod clearing;
+mod dividing;
 mod entry;
 mod falling;
+mod hashing;
 pub mod laws;
 mod layout;
 mod merging;
 mod multiplying;
+mod order;
 mod packed_entry;
 mod packing;
 mod sources;
@@ -24,10 +30,11 @@ mod squeezing;
 mod stripping;
 mod weighing;
 
+use dividing::{ends_divide, quotient_by};
 use falling::is_polynomial;
 pub use laws::{
-    coefficients_law, combined_law, order_law, primitive_law, product_law, strip_law,
-    subtraction_law, sum_law, unit_law, value_law,
+    clear_law, clearing_product_law, coefficients_law, combined_law, one_clearing_law, order_law,
+    primitive_law, product_law, strip_law, subtraction_law, sum_law, unit_law, value_law,
 };
 use layout::laid;
 use monomial::Monomial;
@@ -35,7 +42,8 @@ use multiplying::{added, combined, multiplied, summed};
 use std::alloc::{AllocError, AllocFailed, Global};
 use std::cmp::Ordering;
 use std::marker::Model;
-use stripping::{content_of, is_member, quotients, same_terms, terms_of_power, unit_monomial};
+pub use stripping::contains;
+use stripping::{content_of, quotients, same_terms, terms_of_power, unit_monomial};
 
 /// A monomial with its coefficient.
 #[derive(Drop)]
@@ -95,7 +103,7 @@ impl<T: Drop> From<AllocFailed<T>> for PolyFault {
     }
 }
 
-/// A polynomial as a factor times a rest.
+/// A factor and a rest, whose product is the polynomial that was stripped or cleared.
 #[derive(Drop)]
 pub struct Stripped {
     pub factor: Poly,
@@ -243,13 +251,56 @@ impl Poly {
         })
     }
 
-    /// Whether the rest of this polynomial under the units is the constant 1 or a member of the units. It fails only where no memory is left.
+    /// The quotient by a polynomial that divides openly: `g` with `self = n*g`, where such a polynomial exists and the product `n*g` is neither
+    /// of too high degree nor heavy, and `None` exactly otherwise. It fails only where no memory is left.
+    pub fn quotient(&self, n: &Poly) -> Result<Option<Poly>, AllocError>
+        requires { n.now ≢ [] }
+        ensures { IfOk result (λ o. MatchOption o ((g : List Term) → DividesOpenly n.now self.now g → ⊥) (λ g. DividesOpenly n.now self.now g)) }
+    {
+        let whole = self.terms();
+        let divisor = n.terms();
+        if !ends_divide(whole, divisor) {
+            return Ok(None);
+        }
+        let [leading, others @ ..] = divisor else {
+            return Ok(None);
+        };
+        let Some(terms) = quotient_by(*self.terms.allocator(), whole, leading, others)? else {
+            return Ok(None);
+        };
+        let quotient = Poly { terms };
+        match quotient.times(n) {
+            Ok(_) => Ok(Some(quotient)),
+            Err(PolyFault::Degree { .. }) => Ok(None),
+            Err(PolyFault::Heavy { .. }) => Ok(None),
+            Err(PolyFault::OutOfMemory) => Err(AllocError),
+        }
+    }
+
+    /// The polynomial cleared of the units: stripped, and then divided by the units in form, in their order, each as often as it divides openly
+    /// and the products with the factor are not stopped. It fails only where no memory is left.
+    pub fn clear(&self, units: &[Poly]) -> Result<Stripped, AllocError>
+        ensures { IfOk result (λ s. IsCleared units.now self.now s.factor s.rest) }
+    {
+        let stripped = self.strip(units)?;
+        stripped.cleared(units)
+    }
+
+    /// Whether this is a unit: the rest of its strip or of its clearing is the constant 1 or a member of the units. It fails only where no
+    /// memory is left, and the constant 1 takes none.
     pub fn is_unit(&self, units: &[Poly]) -> Result<bool, AllocError>
         ensures { IfOk result (λ b. IsTrue b ↔ IsUnit units.now self.now) }
     {
+        if self.is_one() {
+            return Ok(true);
+        }
         let _terms = self.terms();
         let stripped = self.strip(units)?;
-        Ok(is_one_or_member(units, &stripped.rest))
+        if is_one_or_member(units, &stripped.rest) {
+            return Ok(true);
+        }
+        let cleared = stripped.cleared(units)?;
+        Ok(is_one_or_member(units, &cleared.rest))
     }
 
     /// The coefficient of `var^exp`: the terms in which the variable has this exponent, without it. It fails only where no memory is left.
@@ -306,7 +357,7 @@ fn is_one_or_member(units: &[Poly], rest: &Poly) -> bool
     if rest.is_one() {
         return true;
     }
-    is_member(units, rest)
+    contains(units, rest)
 }
 
 // The order of two lists of terms.

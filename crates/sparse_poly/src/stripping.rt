@@ -3,7 +3,7 @@ ghost use Rattle.std.specs.Prelude.{◌≡◌, ◌≢◌, ◌≤◌, ◌%◌, �
 ghost use Rattle.sparse_poly.specs.Polynomials.{variable};
 ghost use Prim.Native.Nat.{◌∣◌};
 ghost use Rattle.std.specs.Int.{IsGcd};
-ghost use Rattle.std.specs.List.{AllByRecursion};
+ghost use Rattle.std.specs.List.{AllByRecursion, Contains};
 ghost use Rattle.monomial.specs.Monomials.{Divides};
 ghost use Rattle.sparse_poly.specs.Contributions.{max_coeff, IsPoly};
 ghost use Rattle.sparse_poly.specs.Primitive.{DividesAll};
@@ -120,11 +120,11 @@ pub fn quotients(
 }
 
 /// Whether a polynomial is a member of a list.
-pub fn is_member(units: &[Poly], poly: &Poly) -> bool
-    ensures { result ≡ is_member units.now poly.now }
+pub fn contains(list: &[Poly], poly: &Poly) -> bool
+    ensures { IsTrue result ↔ Contains list.now poly.now }
 {
-    for unit in units {
-        match unit.order(poly) {
+    for member in list {
+        match member.order(poly) {
             Ordering::Less => {}
             Ordering::Equal => return true,
             Ordering::Greater => {}
@@ -215,7 +215,7 @@ pub fn unit_monomial(alloc: Global, terms: &[Term], units: &[Poly]) -> Result<Mo
     };
     let powers = unit_powers(alloc, terms, units, &leading.monomial)?;
     match Monomial::from_powers(alloc, powers.as_slice()) {
-        Ok(monomial) => Ok(stored_as(monomial, &leading.monomial)),
+        Ok(monomial) => Ok(stored_as(alloc, monomial, &leading.monomial)),
         Err(e) => Err(e),
     }
 }

@@ -1,4 +1,4 @@
-use Rattle.sparse_poly.proofs.Total.{poly_cmp-IsAntisymmetric, poly_cmp-IsTotalOrder}
+use Rattle.sparse_poly.specs.OrderLaws.{poly_cmp-IsAntisymmetric, poly_cmp-IsTotalOrder}
 use Rattle.sparse_poly.proofs.laws.order_law.Goals as goal
 
 pub returns : goal.returns

@@ -1,6 +1,5 @@
--- The order of polynomials is total, and only equal polynomials tie.
+-- The laws of the order of polynomials: it is total, and only equal polynomials tie.
 use Rattle.std.specs.Prelude.{◌≡◌}
-use Rattle.std.proofs.Common.{◌∙◌, ap}
 use Rattle.std.specs.Cmp.{IsTotalOrder, on_total}
 use Rattle.std.proofs.lemmas.Cmp.{then_total, lists_total, int_cmp_total}
 use Rattle.std.specs.FinMap.{IsAntisymmetric, int_cmp-IsAntisymmetric, slice_cmp-IsAntisymmetric}
@@ -9,6 +8,7 @@ use Rattle.monomial.specs.Monomials.{monomial_cmp}
 use Rattle.monomial.proofs.Total.{both_equal, monomial_cmp-IsAntisymmetric, monomial_cmp-IsTotalOrder}
 use Rattle.sparse_poly.specs.declared.Term.{Term}
 use Rattle.sparse_poly.specs.Order.{term_cmp, poly_cmp}
+use Rattle.std.proofs.Common.{◌∙◌, ap}
 
 -- two terms with one monomial and one coefficient are the same
 pub same_term : (t u : Term) → t.monomial ≡ u.monomial → t.coeff ≡ u.coeff → t ≡ u
