@@ -1,5 +1,5 @@
 -- The ring that a list of triples states.
-use Rattle.std.specs.Prelude.{ℕ, Bool, ◌&&◌, ◌||◌, not, ◌==◌, nat_lt, List, map, count_by}
+use Rattle.std.specs.Prelude.{◌≡◌, ℕ, ◌<◌, ◌⊎◌, Bool, ◌&&◌, ◌||◌, not, ◌==◌, nat_lt, List, map, count_by, Contains}
 use Rattle.std.specs.List.{list_any}
 use Rattle.label_tuples.specs.Extended.{all_triples}
 use Rattle.fusion_ring.specs.declared.Triple.{Triple}
@@ -38,3 +38,11 @@ is_product products t = is_listed products t || is_unit_product t
 
 abbrev pub stated : ℕ → List Triple → Fusion
 stated n products = record { labels = n; table = map (is_product products) (all_triples n) }
+
+-- a product with the unit: 0 times the label b is b, and the label a times 0 is a
+abbrev pub IsUnitProduct : ℕ → Triple → Type 0
+IsUnitProduct n p = ((p.a ≡ 0) × (p.b < n) × (p.c ≡ p.b)) ⊎ ((p.b ≡ 0) × (p.a < n) × (p.c ≡ p.a))
+
+-- the list of a ring of n labels says that the product of a and b has the channel c
+abbrev pub IsStatedProduct : ℕ → List Triple → Triple → Type 0
+IsStatedProduct n products p = Contains products p ⊎ IsUnitProduct n p

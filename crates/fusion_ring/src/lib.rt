@@ -10,7 +10,7 @@ mod laws;
 mod products;
 mod table;
 
-pub use laws::ring_answer_law;
+pub use laws::{channel_law, ring_answer_law};
 use products::{first_outside, least_repeat, least_unit_fault};
 use std::alloc::{AllocError, Global};
 use std::marker::Model;

@@ -1,140 +1,98 @@
 use super::*;
+use std::process::Abort;
 use std::test::Fail;
 
-fn triples(alloc: Global, listed: &[(u64, u64, u64)]) -> Result<Vec<Triple>, AllocError> {
-    let mut products = Vec::new(alloc);
-    for (a, b, c) in listed {
-        products.push(Triple {
-            a: *a,
-            b: *b,
-            c: *c,
-        })?;
+/// The number of labels and the listed triples, and the number of labels of the ring or the fault.
+const TABLE: &str = "1 | Ok(1)
+2 1 1 0 | Ok(2)
+2 0 1 1 1 0 1 0 0 0 1 1 0 | Ok(2)
+3 1 1 2 1 2 0 2 1 0 2 2 1 | Ok(3)
+2 1 1 0 1 1 1 | Ok(2)
+3 1 1 0 1 1 2 1 2 1 2 1 1 2 2 0 | Ok(3)
+3 1 1 0 1 2 2 2 1 2 2 2 0 2 2 1 2 2 2 | Ok(3)
+0 | Err(LabelCount { labels: 0 })
+13 | Err(LabelCount { labels: 13 })
+2 1 1 0 1 2 1 5 0 0 | Err(LabelRange { index: 1 })
+2 1 1 0 1 1 0 | Err(Multiplicity { a: 1, b: 1, c: 0 })
+2 0 1 1 1 1 0 0 1 1 | Err(Multiplicity { a: 0, b: 1, c: 1 })
+2 0 1 0 1 1 0 | Err(UnitFault { a: 0, b: 1, c: 0 })
+2 1 1 1 | Err(DualFault { a: 1 })
+3 1 1 0 2 2 0 1 2 1 2 1 2 | Err(NotCommutative { a: 1, b: 2, c: 1 })
+3 1 1 0 2 2 0 1 2 1 2 1 1 | Err(NotAssociative { a: 1, b: 1, c: 2, d: 0 })";
+
+fn numbers(alloc: Global, text: &str) -> Result<Vec<u64>, AllocError> {
+    let mut all = Vec::new(alloc);
+    for word in text.split_whitespace() {
+        all.push(word.parse::<u64>().unwrap_or(0))?;
     }
-    Ok(products)
+    Ok(all)
 }
 
-fn fault(
-    rt: &HostRuntime,
-    labels: u64,
-    listed: &[(u64, u64, u64)],
-) -> Result<Option<RingFault>, AllocError> {
-    let products = triples(rt.alloc(), listed)?;
-    Ok(Ring::new(rt.alloc(), labels, &products).err())
+fn triples(alloc: Global, numbers: &[u64]) -> Result<Vec<Triple>, AllocError> {
+    let mut all = Vec::new(alloc);
+    for three in numbers.chunks(3) {
+        if let [a, b, c] = three {
+            let (a, b, c) = (*a, *b, *c);
+            all.push(Triple { a, b, c })?;
+        }
+    }
+    Ok(all)
 }
 
-const CYCLIC_3: [(u64, u64, u64); 4] = [(1, 1, 2), (1, 2, 0), (2, 1, 0), (2, 2, 1)];
+fn answer(alloc: Global, row: &[u64]) -> Result<String, AllocError> {
+    let [labels, listed @ ..] = row else {
+        return String::from_str(alloc, "no row");
+    };
+    let answer = Ring::new(alloc, *labels, &triples(alloc, listed)?).map(|ring| ring.labels());
+    format!(in alloc; "{answer:?}")
+}
 
-const FIBONACCI: [(u64, u64, u64); 2] = [(1, 1, 0), (1, 1, 1)];
-
-const ISING: [(u64, u64, u64); 5] = [(1, 1, 0), (1, 1, 2), (1, 2, 1), (2, 1, 1), (2, 2, 0)];
-
-const REP_S3: [(u64, u64, u64); 6] = [
-    (1, 1, 0),
-    (1, 2, 2),
-    (2, 1, 2),
-    (2, 2, 0),
-    (2, 2, 1),
-    (2, 2, 2),
-];
+fn is<R: Abort>(rt: &R, found: &str, expected: &str) {
+    assert_eq!(rt; found, expected);
+}
 
 #[test]
-fn faults(rt: HostRuntime) -> Result<(), Fail> {
-    let cases: [(u64, &[(u64, u64, u64)], RingFault); 9] = [
-        (0, &[], RingFault::LabelCount { labels: 0 }),
-        (13, &[], RingFault::LabelCount { labels: 13 }),
-        (
-            2,
-            &[(1, 1, 0), (1, 2, 1), (5, 0, 0)],
-            RingFault::LabelRange { index: 1 },
-        ),
-        (
-            2,
-            &[(1, 1, 0), (1, 1, 0)],
-            RingFault::Multiplicity { a: 1, b: 1, c: 0 },
-        ),
-        (
-            2,
-            &[(0, 1, 0), (1, 1, 0)],
-            RingFault::UnitFault { a: 0, b: 1, c: 0 },
-        ),
-        (2, &[(1, 1, 1)], RingFault::DualFault { a: 1 }),
-        (
-            3,
-            &[(1, 1, 0), (2, 2, 0), (1, 2, 1), (2, 1, 2)],
-            RingFault::NotCommutative { a: 1, b: 2, c: 1 },
-        ),
-        (
-            3,
-            &[(1, 1, 0), (2, 2, 0), (1, 2, 1), (2, 1, 1)],
-            RingFault::NotAssociative {
-                a: 1,
-                b: 1,
-                c: 2,
-                d: 0,
-            },
-        ),
-        (
-            2,
-            &[(0, 1, 1), (1, 1, 0), (0, 1, 1)],
-            RingFault::Multiplicity { a: 0, b: 1, c: 1 },
-        ),
-    ];
-    for (labels, listed, expected) in cases {
-        assert_eq!(rt; fault(&rt, labels, listed)?, Some(expected));
+fn answers(rt: HostRuntime) -> Result<(), Fail> {
+    let alloc = rt.alloc();
+    for line in TABLE.lines() {
+        if let Some((row, expected)) = line.split_once(" | ") {
+            is(&rt, &answer(alloc, &numbers(alloc, row)?)?, expected);
+        }
     }
     Ok(())
 }
 
-#[test]
-fn rings(rt: HostRuntime) -> Result<(), Fail> {
-    assert_eq!(rt; fault(&rt, 1, &[])?, None);
-    assert_eq!(rt; fault(&rt, 2, &[(1, 1, 0)])?, None, "cyclic of order 2");
-    assert_eq!(rt;
-        fault(&rt, 2, &[(0, 1, 1), (1, 0, 1), (0, 0, 0), (1, 1, 0)])?,
-        None,
-        "with the unit"
-    );
-    assert_eq!(rt; fault(&rt, 3, &CYCLIC_3)?, None);
-    assert_eq!(rt; fault(&rt, 2, &FIBONACCI)?, None);
-    assert_eq!(rt; fault(&rt, 3, &ISING)?, None);
-    assert_eq!(rt; fault(&rt, 3, &REP_S3)?, None);
-    Ok(())
+fn cyclic(alloc: Global, labels: u64) -> Result<Vec<Triple>, AllocError> {
+    let mut all = Vec::new(alloc);
+    for a in 1..labels {
+        for b in 1..labels {
+            let c = if a < labels - b {
+                a + b
+            } else {
+                a - (labels - b)
+            };
+            all.push(Triple { a, b, c })?;
+        }
+    }
+    Ok(all)
+}
+
+/// The number of labels, two channels, and the duals of a copy of the ring.
+fn calls(alloc: Global, ring: &Ring) -> Result<String, AllocError> {
+    let ring = ring.copy()?;
+    let labels = ring.labels();
+    let (is, is_not) = (ring.channel(7, 8, 3), ring.channel(7, 12, 7));
+    if labels < 8 {
+        return String::from_str(alloc, "few labels");
+    }
+    let (unit, dual) = (ring.dual(0), ring.dual(7));
+    format!(in alloc; "{labels} {is} {is_not} {unit} {dual}")
 }
 
 #[test]
 fn cyclic_of_order_12(rt: HostRuntime) -> Result<(), Fail> {
-    let mut products = Vec::new(rt.alloc());
-    for a in 1..12u64 {
-        for b in 1..12u64 {
-            products.push(Triple {
-                a,
-                b,
-                c: (a + b) % 12,
-            })?;
-        }
-    }
-    let ring = Ring::new(rt.alloc(), 12, &products).ok().ok_or("a ring")?;
-    assert_eq!(rt; ring.labels(), 12);
-    assert!(rt; ring.channel(7, 8, 3));
-    assert!(rt; !ring.channel(7, 8, 4));
-    assert!(rt; !ring.channel(7, 12, 7));
-    Ok(())
-}
-
-#[test]
-fn calls(rt: HostRuntime) -> Result<(), Fail> {
-    let products = triples(rt.alloc(), &CYCLIC_3)?;
-    let ring = Ring::new(rt.alloc(), 3, &products).ok().ok_or("a ring")?;
-    let ring = ring.copy()?;
-    assert_eq!(rt; ring.labels(), 3);
-    assert!(rt; ring.channel(0, 2, 2));
-    assert!(rt; ring.channel(1, 2, 0));
-    assert!(rt; !ring.channel(1, 2, 1));
-    if ring.labels() == 3 {
-        assert_eq!(rt; ring.dual(0), 0);
-        assert_eq!(rt; ring.dual(1), 2);
-        assert_eq!(rt; ring.dual(2), 1);
-    }
-    ring_answer_law();
+    let alloc = rt.alloc();
+    let ring = Ring::new(alloc, 12, &cyclic(alloc, 12)?).ok().ok_or("a ring")?;
+    is(&rt, &calls(alloc, &ring)?, "12 true false 0 5");
     Ok(())
 }
