@@ -160,6 +160,3 @@ impl Ring {
         })
     }
 }
-
-#[cfg(test)]
-mod tests;

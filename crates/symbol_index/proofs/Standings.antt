@@ -1,11 +1,11 @@
 -- What the standing of a symbol says.
-use Rattle.std.specs.Prelude.{◌≡◌, ℕ, ◌<◌, Bool, true, false, ◌&&◌, not, if◌then◌else◌, Some, Result, IfOk, List, length, slice_get, slice_index_or, Contains, refl}
+use Rattle.std.specs.Prelude.{◌≡◌, ◌↔◌, ℕ, ◌<◌, Bool, true, false, ◌&&◌, not, if◌then◌else◌, Some, Result, IfOk, List, length, slice_get, slice_index_or, Contains, refl}
 use Rattle.std.specs.Option.{unwrap_or}
 use Rattle.std.specs.Result.{result_unwrap_or}
 use Rattle.std.specs.List.Sorted.{IsBinarySearchResult}
 use Rattle.symbol_index.specs.Order.{symbol_cmp}
 use Rattle.std.proofs.Common.{sym as back, ◌∙◌, ap, subst}
-use Rattle.std.proofs.lemmas.Option.{slice_get-get_or}
+use Rattle.std.proofs.lemmas.Option.{slice_get-get_or, slice_get_within, get_or_from_slice_get}
 use Rattle.fusion_ring.specs.Fusion.{Fusion}
 use Rattle.symbol_index.specs.declared.Symbol.{Symbol}
 use Rattle.symbol_index.specs.declared.Standing.TheVariants.{Unit as unit_symbol, Unknown, NotAdmissible}
@@ -76,3 +76,10 @@ number_from_search r s h us o e found below =
     let below_there : IfOk o (λ i. i < length (unknowns r)) = subst (λ xs. IfOk o (λ i. i < length xs)) e below in
     ap (λ x. result_unwrap_or x 0) (search_is (unknowns r) (unknowns_sorted r) s m o (λ i k. subst (λ x. IfOk x (λ j. j < length (unknowns r))) k below_there) found_there)
     ∙ back (number_is r s m)
+
+-- the unknown at the place i, and only it, stands as that of number i
+pub standing_is : (r : Fusion) (i : ℕ) (s : Symbol) → (slice_get (unknowns r) i ≡ Some s) ↔ (standing r s ≡ Unknown i)
+standing_is r i s = (
+  λ e. standing_at r i s (slice_get_within (unknowns r) i s e) (get_or_from_slice_get (unknowns r) i s s e),
+  λ e. let q = standing_unknown r s i e in subst (λ j. slice_get (unknowns r) j ≡ Some s) q.1 (unknown_at_number r s (unknowns_contain r s q.0)),
+)

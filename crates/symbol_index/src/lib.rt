@@ -6,9 +6,11 @@ ghost use Rattle.symbol_index.specs.Symbols.{is_admissible, has_unit, is_unknown
 ghost use Rattle.std.specs.List.Sorted.{IsBinarySearchResult};
 ghost use Rattle.symbol_index.specs.Order.{symbol_cmp};
 
+mod laws;
 mod unknowns;
 
 use fusion_ring::Ring;
+pub use laws::number_law;
 use std::alloc::{AllocError, Global};
 use std::marker::Model;
 use thiserror::Error;
@@ -191,6 +193,3 @@ fn find(symbols: &[Symbol], s: Symbol) -> Result<usize, usize>
 {
     symbols.binary_search(&s)
 }
-
-#[cfg(test)]
-mod tests;
