@@ -7,8 +7,8 @@ ghost use Rattle.sparse_poly.specs.Clearing.{DividesOpenly, IsLight};
 ghost use Rattle.sparse_poly.specs.Dividing.{IsTermOver, IsRow, IsDifference, HasOutOfRange};
 
 use crate::Term;
+use crate::layout::without_layout;
 use crate::multiplying::kept_product;
-use crate::stripping::same_terms;
 use monomial::MonoFault;
 use std::alloc::{AllocError, Global};
 use std::cmp::Ordering;
@@ -26,7 +26,7 @@ pub fn quotient_by(
     requires divisor { IsPoly (leading.now ∷ others.now) }
     ensures { IfOk result (λ o. MatchOption o ((g : List Term) → DividesOpenly (leading.now ∷ others.now) terms.now g → ⊥) (λ v. IsPoly v.items × IsSum terms.now (products v.items (leading.now ∷ others.now)))) }
 {
-    let mut rest = VecDeque::from(same_terms(alloc, terms)?);
+    let mut rest = VecDeque::from(without_layout(alloc, terms)?);
     let mut made = Vec::new(alloc);
     'divisions: while let Some(term) = rest.pop_front() {
         let Some(next) = term_over(&term, leading)? else {

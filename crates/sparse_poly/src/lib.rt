@@ -36,7 +36,7 @@ pub use laws::{
     clear_law, clearing_product_law, coefficients_law, combined_law, one_clearing_law, order_law,
     primitive_law, product_law, strip_law, subtraction_law, sum_law, unit_law, value_law,
 };
-use layout::laid;
+use layout::{laid, without_layout};
 use monomial::Monomial;
 use multiplying::{added, combined, multiplied, summed};
 use std::alloc::{AllocError, AllocFailed, Global};
@@ -262,13 +262,17 @@ impl Poly {
         if !ends_divide(whole, divisor) {
             return Ok(None);
         }
-        let [leading, others @ ..] = divisor else {
+        let alloc = *self.terms.allocator();
+        let divisor = without_layout(alloc, divisor)?;
+        let [leading, others @ ..] = divisor.as_slice() else {
             return Ok(None);
         };
-        let Some(terms) = quotient_by(*self.terms.allocator(), whole, leading, others)? else {
+        let Some(terms) = quotient_by(alloc, whole, leading, others)? else {
             return Ok(None);
         };
-        let quotient = Poly { terms };
+        let quotient = Poly {
+            terms: laid(alloc, terms),
+        };
         match quotient.times(n) {
             Ok(_) => Ok(Some(quotient)),
             Err(PolyFault::Degree { .. }) => Ok(None),
