@@ -1,0 +1,5 @@
+mod Members
+mod Greatest
+mod Degrees
+mod PowerCoefficients
+mod ProductCoefficients
