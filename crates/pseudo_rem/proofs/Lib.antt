@@ -1,0 +1,9 @@
+pub mod Degrees
+pub mod Cancelling
+pub mod DegreeLaw
+pub mod Factors
+pub mod Raised
+pub mod OneStep
+pub mod OneRemainder
+pub mod Scans
+pub mod Values
