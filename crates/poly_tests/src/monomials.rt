@@ -1,117 +1,123 @@
-//! Examples of monomials.
-use crate::monomial_of;
+//! Monomials of few and many powers, and of great variables. The operand `greatest` stands for x4294967295^65535.
+use crate::texts::{both, compare, monomial, push, push_monomial, push_number};
 use monomial::{MonoFault, Monomial};
 use std::alloc::Global;
-use std::cmp::Ordering;
+use std::process::Abort;
 use std::test::Fail;
 
-fn mono(alloc: Global, powers: [(u32, u16); 2]) -> Result<Monomial, Fail> {
-    match monomial_of(alloc, powers) {
-        Ok(monomial) => Ok(monomial),
-        Err(_) => Err("no monomial".into()),
+const TABLE: &str = r#"product; x2^2*x0; x2*x1^3 = x2^3*x1^3*x0
+product; x3^65534; x3 = x3^65535
+product; x3^65535; x3 = degree 3
+product; x2^65535*x1^65535; x2*x1 = degree 2
+product; x9^7; x8*x7*x6*x5*x4*x3*x2*x1 = x9^7*x8*x7*x6*x5*x4*x3*x2*x1
+product; x8*x7*x6*x5*x4*x3*x2*x1; x0^7 = x8*x7*x6*x5*x4*x3*x2*x1*x0^7
+product; x1^65534; x8*x7*x6*x5*x4*x3*x2*x1 = x8*x7*x6*x5*x4*x3*x2*x1^65535
+product; x8*x7*x6*x5*x4*x3*x2*x1; x5^65535 = degree 5
+product; x9*x8*x7*x6*x5*x4*x3*x2*x1; x8*x7*x6*x5*x4*x3*x2*x1*x0 = x9*x8^2*x7^2*x6^2*x5^2*x4^2*x3^2*x2^2*x1^2*x0
+product; x65535^3; x65536 = x65536*x65535^3
+product; x65536*x65535; x65536*x65535 = x65536^2*x65535^2
+product; greatest; greatest = degree 4294967295
+product; x65536*x65535; greatest = x4294967295^65535*x65536*x65535
+compare; x2^2*x0; x2*x1^3 = Greater false
+compare; x1; x1*x0^5 = Less true
+compare; 1; 1 = Equal true
+compare; x8*x7*x6*x5*x4*x3*x2*x1; x8*x7*x6*x5*x4*x3*x2*x1*x0 = Less true
+compare; x8*x7*x6*x5*x4*x3*x2*x1*x0; x8*x7*x6*x5*x4*x3*x2*x1 = Greater false
+compare; x8*x7*x6*x5*x4*x3*x2*x1*x0; x8*x7*x6*x5*x4*x3*x2*x1*x0 = Equal true
+compare; x65535^9*x65534^9; x65536 = Less false
+compare; x65536; x8*x7*x6*x5*x4*x3*x2*x1*x0 = Greater false
+quotient; x1^3*x0^2; x1*x0^2 = x1^2
+quotient; x5^5*x4^5*x3^5; x5^4*x4^4 = x5*x4*x3^5
+quotient; x8^2*x7^2*x6^2*x5^2*x4^2*x3^2*x2^2*x1^2*x0^2; x8^2*x7^2*x6^2*x5^2*x4^2*x3^2*x2^2*x1^2 = x0^2
+quotient; x65536^5*x65535^5; x65536^4 = x65536*x65535^5
+without; x7^3*x2^2; x7 = Some(7) x2^2
+without; 1; x7 = None 1
+without; x8*x7*x6*x5*x4*x3*x2*x1*x0; x8 = Some(8) x7*x6*x5*x4*x3*x2*x1*x0
+without; x65536; x65536 = Some(65536) 1"#;
+
+fn operand(alloc: Global, text: &str) -> Result<Monomial, Fail> {
+    if text == "greatest" {
+        return Ok(Monomial::power(alloc, u32::MAX, 65535)?);
     }
+    monomial(alloc, text)
 }
 
-// The exponents of variables 0 to 3 in a product, or the variable of too high degree.
-fn product(
-    alloc: Global,
-    first: [(u32, u16); 2],
-    second: [(u32, u16); 2],
-) -> Result<Result<[u32; 4], u32>, Fail> {
-    let first = mono(alloc, first)?;
-    let second = mono(alloc, second)?;
-    match first.times(&second) {
-        Ok(m) => Ok(Ok([m.exponent(0), m.exponent(1), m.exponent(2), m.exponent(3)])),
-        Err(MonoFault::Degree { var }) => Ok(Err(var)),
+fn push_product(alloc: Global, m: &Monomial, n: &Monomial, into: &mut Vec<u8>) -> Result<(), Fail> {
+    match m.times(n) {
+        Ok(product) => push_monomial(alloc, &product, into),
+        Err(MonoFault::Degree { var }) => {
+            push("degree ", into)?;
+            push_number(alloc, u128::from(var), into)
+        }
         Err(MonoFault::OutOfMemory) => Err("no memory".into()),
     }
 }
 
 // Their order, and whether the first divides the second.
-fn compared(
+fn push_comparison(
     alloc: Global,
-    first: [(u32, u16); 2],
-    second: [(u32, u16); 2],
-) -> Result<(Ordering, bool), Fail> {
-    let first = mono(alloc, first)?;
-    let second = mono(alloc, second)?;
-    Ok((first.order(&second), first.divides(&second)))
+    m: &Monomial,
+    n: &Monomial,
+    into: &mut Vec<u8>,
+) -> Result<(), Fail> {
+    let order = m.order(n);
+    let divides = m.divides(n);
+    push(format!(in alloc; "{order:?} {divides}")?.as_str(), into)
 }
 
-// The exponents of variables 0 and 1 in a quotient by a divisor.
-fn quotient(
+fn push_quotient(
     alloc: Global,
-    whole: [(u32, u16); 2],
-    divisor: [(u32, u16); 2],
-) -> Result<[u32; 2], Fail> {
-    let whole = mono(alloc, whole)?;
-    let divisor = mono(alloc, divisor)?;
-    if !divisor.divides(&whole) {
+    whole: &Monomial,
+    divisor: &Monomial,
+    into: &mut Vec<u8>,
+) -> Result<(), Fail> {
+    if !divisor.divides(whole) {
         return Err("it does not divide".into());
     }
-    let left = whole.over(&divisor)?;
-    Ok([left.exponent(0), left.exponent(1)])
+    push_monomial(alloc, &whole.over(divisor)?, into)
 }
 
-// The greatest variable of a monomial, that of its copy, and that without this variable.
-fn tops(alloc: Global, powers: [(u32, u16); 2], var: u32) -> Result<[Option<u32>; 3], Fail> {
-    let whole = mono(alloc, powers)?;
-    let copy = whole.copy()?;
-    let left = whole.without(var)?;
-    Ok([whole.top(), copy.top(), left.top()])
+// The top of a copy, and the monomial without the top of another.
+fn push_rest(alloc: Global, m: &Monomial, n: &Monomial, into: &mut Vec<u8>) -> Result<(), Fail> {
+    let top = m.copy()?.top();
+    push(format!(in alloc; "{top:?} ")?.as_str(), into)?;
+    let Some(var) = n.top() else {
+        return Err("no variable".into());
+    };
+    push_monomial(alloc, &m.without(var)?, into)
 }
 
-#[test]
-fn products(rt: HostRuntime) -> Result<(), Fail> {
-    let alloc = rt.alloc();
-    assert_eq!(rt;
-        product(alloc, [(2, 2), (0, 1)], [(2, 1), (1, 3)])?,
-        Ok([1, 3, 3, 0])
-    );
-    assert_eq!(rt;
-        product(alloc, [(3, 65534), (0, 0)], [(3, 1), (0, 0)])?,
-        Ok([0, 0, 0, 65535])
-    );
-    assert_eq!(rt;
-        product(alloc, [(3, 65535), (0, 0)], [(3, 1), (0, 0)])?,
-        Err(3)
-    );
-    assert_eq!(rt;
-        product(alloc, [(2, 65535), (1, 65535)], [(1, 1), (2, 1)])?,
-        Err(2)
-    );
+fn answer(alloc: Global, question: &str) -> Result<Vec<u8>, Fail> {
+    let (operation, operands) = both(question)?;
+    let (first, second) = both(operands)?;
+    let m = operand(alloc, first)?;
+    let n = operand(alloc, second)?;
+    let mut text = Vec::new(alloc);
+    if operation == "product" {
+        push_product(alloc, &m, &n, &mut text)?;
+    } else if operation == "compare" {
+        push_comparison(alloc, &m, &n, &mut text)?;
+    } else if operation == "quotient" {
+        push_quotient(alloc, &m, &n, &mut text)?;
+    } else {
+        push_rest(alloc, &m, &n, &mut text)?;
+    }
+    Ok(text)
+}
+
+fn is_right<R: Abort + AllocGlobal>(rt: &R, line: &str) -> Result<(), Fail> {
+    let Some((question, expected)) = line.split_once(" = ") else {
+        return Err("no answer".into());
+    };
+    let found = answer(rt.alloc(), question)?;
+    compare(rt, found.as_slice(), expected, line);
     Ok(())
 }
 
 #[test]
-fn orders(rt: HostRuntime) -> Result<(), Fail> {
-    let alloc = rt.alloc();
-    assert_eq!(rt;
-        compared(alloc, [(2, 2), (0, 1)], [(2, 1), (1, 3)])?,
-        (Ordering::Greater, false)
-    );
-    assert_eq!(rt;
-        compared(alloc, [(1, 1), (0, 0)], [(1, 1), (0, 5)])?,
-        (Ordering::Less, true)
-    );
-    assert_eq!(rt;
-        compared(alloc, [(0, 0), (0, 0)], [(0, 0), (0, 0)])?,
-        (Ordering::Equal, true)
-    );
-    Ok(())
-}
-
-#[test]
-fn quotients(rt: HostRuntime) -> Result<(), Fail> {
-    let alloc = rt.alloc();
-    assert_eq!(rt;
-        quotient(alloc, [(1, 3), (0, 2)], [(1, 1), (0, 2)])?,
-        [0, 2]
-    );
-    assert_eq!(rt;
-        tops(alloc, [(7, 3), (2, 2)], 7)?,
-        [Some(7), Some(7), Some(2)]
-    );
-    assert_eq!(rt; tops(alloc, [(0, 0), (0, 0)], 7)?, [None, None, None]);
+fn monomials(rt: HostRuntime) -> Result<(), Fail> {
+    for line in TABLE.lines() {
+        is_right(&rt, line)?;
+    }
     Ok(())
 }

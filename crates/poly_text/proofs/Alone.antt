@@ -5,7 +5,7 @@ use Rattle.std.proofs.lemmas.Bool.Decides.{nat_tests}
 use Rattle.std.specs.List.{AllByRecursion}
 use Rattle.sparse_poly.specs.declared.Term.{Term}
 use Rattle.sparse_poly.specs.Contributions.{max_coeff}
-use Rattle.sparse_poly.proofs.Total.{same_term}
+use Rattle.sparse_poly.specs.OrderLaws.{same_term}
 use Rattle.poly_text.specs.Text.{factor_text, more_factors, body_text, sign_text, more_terms, poly_text}
 use Rattle.poly_text.specs.Form.{is_digit}
 use Rattle.poly_text.specs.Numbers.{number_from, IsFactorInRange, IsTermInRange, AreInRange}

@@ -14,8 +14,6 @@ mod numbers;
 mod order;
 mod raw;
 mod reader;
-#[cfg(test)]
-mod tests;
 mod writer;
 
 pub use laws::{answer_law, text_law};
