@@ -6,6 +6,3 @@ mod inverse;
 
 pub use gauge::{gauge_law, gauges};
 pub use inverse::{InverseLabels, inverse_law, inverses};
-
-#[cfg(test)]
-mod tests;

@@ -161,6 +161,3 @@ fn hexagon_labels(alloc: Global, ring: &Ring) -> Result<Vec<HexagonLabels>, Allo
         is_right.then_some(HexagonLabels { a, b, c, d, e, g })
     })
 }
-
-#[cfg(test)]
-mod tests;

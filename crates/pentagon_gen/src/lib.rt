@@ -133,6 +133,3 @@ fn pentagon_labels(alloc: Global, ring: &Ring) -> Result<Vec<PentagonLabels>, Al
         })
     })
 }
-
-#[cfg(test)]
-mod tests;

@@ -7,11 +7,15 @@ mod monomials;
 #[cfg(test)]
 mod products;
 #[cfg(test)]
+mod quotients;
+#[cfg(test)]
 mod reads;
 #[cfg(test)]
 mod strips;
 #[cfg(test)]
 mod sums;
+#[cfg(test)]
+mod tables;
 #[cfg(test)]
 mod texts;
 #[cfg(test)]

@@ -1,11 +1,10 @@
 //! Monomials of few and many powers, and of great variables. The operand `greatest` stands for x4294967295^65535.
-use crate::texts::{both, compare, monomial, push, push_monomial, push_number};
+use crate::texts::{both, monomial, push, push_monomial, push_number};
 use monomial::{MonoFault, Monomial};
 use std::alloc::Global;
-use std::process::Abort;
 use std::test::Fail;
 
-const TABLE: &str = r#"product; x2^2*x0; x2*x1^3 = x2^3*x1^3*x0
+pub const TABLE: &str = r#"product; x2^2*x0; x2*x1^3 = x2^3*x1^3*x0
 product; x3^65534; x3 = x3^65535
 product; x3^65535; x3 = degree 3
 product; x2^65535*x1^65535; x2*x1 = degree 2
@@ -87,7 +86,8 @@ fn push_rest(alloc: Global, m: &Monomial, n: &Monomial, into: &mut Vec<u8>) -> R
     push_monomial(alloc, &m.without(var)?, into)
 }
 
-fn answer(alloc: Global, question: &str) -> Result<Vec<u8>, Fail> {
+/// The answer to a question of the table.
+pub fn answer(alloc: Global, question: &str) -> Result<Vec<u8>, Fail> {
     let (operation, operands) = both(question)?;
     let (first, second) = both(operands)?;
     let m = operand(alloc, first)?;
@@ -103,21 +103,4 @@ fn answer(alloc: Global, question: &str) -> Result<Vec<u8>, Fail> {
         push_rest(alloc, &m, &n, &mut text)?;
     }
     Ok(text)
-}
-
-fn is_right<R: Abort + AllocGlobal>(rt: &R, line: &str) -> Result<(), Fail> {
-    let Some((question, expected)) = line.split_once(" = ") else {
-        return Err("no answer".into());
-    };
-    let found = answer(rt.alloc(), question)?;
-    compare(rt, found.as_slice(), expected, line);
-    Ok(())
-}
-
-#[test]
-fn monomials(rt: HostRuntime) -> Result<(), Fail> {
-    for line in TABLE.lines() {
-        is_right(&rt, line)?;
-    }
-    Ok(())
 }

@@ -3,7 +3,6 @@ use monomial::Monomial;
 use poly_text::{read_poly, write_poly};
 use sparse_poly::{Poly, PolyFault, Term};
 use std::alloc::Global;
-use std::process::Abort;
 use std::test::Fail;
 
 /// The polynomial of a text, in variables below 4,294,967,295.
@@ -12,6 +11,16 @@ pub fn poly(alloc: Global, text: &str) -> Result<Poly, Fail> {
         Ok(poly) => Ok(poly),
         Err(_) => Err("no polynomial".into()),
     }
+}
+
+/// The polynomials of texts that are joined by spaces.
+pub fn polys(alloc: Global, texts: &str) -> Result<Vec<Poly>, Fail> {
+    let mut list = Vec::new(alloc);
+    for text in texts.split(' ') {
+        let member = poly(alloc, text)?;
+        list.push(member)?;
+    }
+    Ok(list)
 }
 
 /// The leading monomial of the polynomial of a text.
@@ -25,10 +34,7 @@ pub fn monomial(alloc: Global, text: &str) -> Result<Monomial, Fail> {
 
 /// Two operands.
 pub fn both(text: &str) -> Result<(&str, &str), Fail> {
-    match text.split_once("; ") {
-        Some(both) => Ok(both),
-        None => Err("one operand".into()),
-    }
+    Ok(text.split_once("; ").ok_or("one operand")?)
 }
 
 /// Appends the text of a polynomial.
@@ -79,9 +85,4 @@ pub fn push_answer(
         }
         Err(PolyFault::OutOfMemory) => Err("no memory".into()),
     }
-}
-
-/// Checks what was found against a line's answer.
-pub fn compare<R: Abort + AllocGlobal>(rt: &R, found: &[u8], expected: &str, line: &str) {
-    assert_eq!(rt; found, expected.as_bytes(), "{line}");
 }

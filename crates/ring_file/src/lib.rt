@@ -11,8 +11,6 @@ mod laws;
 mod problem;
 mod reader;
 mod symbols;
-#[cfg(test)]
-mod tests;
 
 pub use laws::problem_answer_law;
 pub use problem::{Place, Problem, ProblemFault};

@@ -11,7 +11,7 @@ use Rattle.std.proofs.lemmas.List.Sorted.{Contains-permutation, IsPermutation-sy
 use Rattle.std.proofs.lemmas.List.Kept.{IsStrictlySortedBy-dedup, Contains-dedup, Contains-from_dedup}
 use Rattle.sparse_poly.specs.declared.Term.{Term}
 use Rattle.sparse_poly.specs.Order.{poly_cmp}
-use Rattle.sparse_poly.proofs.Total.{poly_cmp-IsTotalOrder, poly_cmp-IsAntisymmetric}
+use Rattle.sparse_poly.specs.OrderLaws.{poly_cmp-IsTotalOrder, poly_cmp-IsAntisymmetric}
 use Rattle.root_system.specs.Ascending.{same_poly}
 use Rattle.sparse_poly.proofs.Evaluation.{tied}
 

@@ -12,7 +12,7 @@ use Rattle.std.proofs.lemmas.Map.Views.{All-after_first}
 use Rattle.std.proofs.lemmas.Map.Keys.{sorted_tail}
 use Rattle.sparse_poly.specs.declared.Term.{Term}
 use Rattle.sparse_poly.specs.Order.{poly_cmp}
-use Rattle.sparse_poly.proofs.Total.{poly_cmp-IsTotalOrder, poly_cmp-IsAntisymmetric}
+use Rattle.sparse_poly.specs.OrderLaws.{poly_cmp-IsTotalOrder, poly_cmp-IsAntisymmetric}
 use Rattle.sparse_poly.proofs.Same.{same_polynomial}
 use Rattle.sparse_poly.proofs.PrimitiveParts.{one_primitive_part}
 use Rattle.fusion_ring.specs.Fusion.{Fusion}

@@ -8,6 +8,3 @@ mod root;
 
 pub use laws::{one_root_law, root_answer_law};
 pub use root::{Root, RootFault, root_law};
-
-#[cfg(test)]
-mod tests;

@@ -67,7 +67,7 @@ pub record Covers {E : Type 0} (f : Field E) (left_before left_after written_bef
   pub writes : Appends written_before written_after (open_leaf_text root.unknowns root.equations)
   pub covers : (x : List E) → AllElements f x → Solution f problem x ↔ MeetsLeaf f x root.equations
 
--- all bytes were read, and a prefix of the text of their certificate was written
+-- all bytes were read, and of the text of their certificate a proper prefix was written: not all of it
 pub record WritesPrefix (left_before left_after written_before written_after : Option (List ℕ)) : Type 0 where
   pub bytes : List ℕ
   pub reads : ReadsAll left_before left_after bytes

@@ -4,8 +4,6 @@
 mod certificate;
 mod certificate_text;
 mod status;
-#[cfg(test)]
-mod tests;
 mod top;
 
 pub use status::{Status, UsageKind, exit_code, status_line};

@@ -21,7 +21,7 @@ pub enum Status {
     Open { leaves: u64, opens: u64 },
     /// The words were refused, and nothing was read.
     Usage(UsageKind),
-    /// A read failed.
+    /// A read failed, and at most 1,048,576 bytes came before.
     ReadFault,
     /// More than 1,048,576 bytes came before the end.
     TooLong,
@@ -31,7 +31,7 @@ pub enum Status {
     TooManyUnknowns { count: u64 },
     /// The root has `count` equations, more than 65,536.
     TooManyEquations { count: u64 },
-    /// A write failed; a prefix of the text was written.
+    /// A write failed; a proper prefix of the text was written, so not all of it.
     WriteFault,
     /// Memory could not be had.
     OutOfMemory,

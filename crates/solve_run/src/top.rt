@@ -1,7 +1,7 @@
 //! The run.
 
 ghost use Rattle.std.specs.Prelude.{◌≡◌, ◌↔◌, IsTrue, map, string_bytes};
-ghost use Rattle.braid_io.specs.Causes.{Rose, TookMore};
+ghost use Rattle.braid_io.specs.Causes.{Rose, TookMore, TookUpTo};
 ghost use Rattle.solve_run.specs.Words.{run_words};
 ghost use Rattle.solve_run.specs.Outcomes.{max_problem_bytes, Refuses, Covers, WritesPrefix, TakesSome, HasWritten, IsToldByBytes};
 
@@ -19,9 +19,11 @@ const MAX_PROBLEM_BYTES: usize = 1_048_576;
 /// is the root, open because the budget 0 is used up.
 ///
 /// `words` leaves out the program's name, and is to be `--budget` and `0`. Nothing is read where the
-/// words are refused, and nothing is written but where the status is `Open` or `WriteFault`. In every
-/// field of characteristic zero an assignment is a solution of the problem exactly if it meets the
-/// leaf. After every status the bytes left are a suffix of those left before.
+/// words are refused, and nothing is written but where the status is `Open` or `WriteFault`: `Open`
+/// comes exactly where the whole text was written, and `WriteFault` where only a proper prefix of it
+/// was. `TooLong` comes exactly where more than 1,048,576 bytes came. In every field of
+/// characteristic zero an assignment is a solution of the problem exactly if it meets the leaf. After
+/// every status the bytes left are a suffix of those left before.
 pub fn run<F: CharZeroField, S: Source, K: Sink>(
     alloc: Global,
     words: &[String],
@@ -29,7 +31,7 @@ pub fn run<F: CharZeroField, S: Source, K: Sink>(
     sink: &mut K,
 ) -> Status
     ensures usage { (result ≡ Status.Usage UsageKind.Words) ↔ ¬ (map string_bytes words.now ≡ run_words) }
-    ensures read_fault { result ≡ Status.ReadFault → Rose (S.faults source.old) (S.faults source.new) }
+    ensures read_fault { result ≡ Status.ReadFault → Rose (S.faults source.old) (S.faults source.new) × TookUpTo (S.left source.old) (S.left source.new) max_problem_bytes }
     ensures too_long { result ≡ Status.TooLong → TookMore (S.left source.old) (S.left source.new) max_problem_bytes }
     ensures problem { (fault : _) → result ≡ Status.Problem fault → Refuses (S.left source.old) (S.left source.new) (Status.Problem fault) }
     ensures unknowns { (count : _) → result ≡ Status.TooManyUnknowns count → Refuses (S.left source.old) (S.left source.new) (Status.TooManyUnknowns count) }

@@ -264,6 +264,3 @@ pub fn trees(alloc: Global, ring: &Ring) -> Result<Vec<(u8, u8, u8, u8, u8)>, Al
         ring.channel(e, c, d).then_some((a, b, e, c, d))
     })
 }
-
-#[cfg(test)]
-mod tests;

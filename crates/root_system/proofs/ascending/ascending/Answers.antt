@@ -5,7 +5,7 @@ use Rattle.std.proofs.lemmas.Fn.{dedup_same}
 use Rattle.std.proofs.lemmas.List.Sorted.{ranks_by, answers_always}
 use Rattle.sparse_poly.specs.declared.Term.{Term}
 use Rattle.sparse_poly.specs.Order.{poly_cmp}
-use Rattle.sparse_poly.proofs.Total.{poly_cmp-IsTotalOrder}
+use Rattle.sparse_poly.specs.OrderLaws.{poly_cmp-IsTotalOrder}
 use Rattle.root_system.specs.Ascending.{same_poly}
 use Rattle.root_system.proofs.InOrder.{strictly_sorted, same_members}
 use Rattle.root_system.proofs.ascending.ascending.Goals as goal

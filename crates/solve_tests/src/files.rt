@@ -1,13 +1,118 @@
-//! A table of files, each with its answer.
+//! Texts of polynomials and files of problems.
 
-use crate::{problem_answer_law, read_problem};
+use crate::tables::is;
+use poly_text::{read_poly, write_poly};
+use ring_file::read_problem;
 use std::alloc::{AllocError, Global};
-use std::process::Abort;
 use std::test::Fail;
-use symbol_index::{GaugeEntry, Symbol};
+
+/// In each line what reading answers where there are 100 unknowns, and the text.
+const POLYNOMIALS: &str = r#"Ok | 0
+Ok | 1
+Ok | -1
+Ok | x0
+Ok | -x0
+Ok | 2*x0-1
+Ok | x2^2*x0-x0^2
+Ok | -20*x10^65535+3*x1
+Ok | 170141183460469231731687303715884105727
+Ok | -170141183460469231731687303715884105727
+Ok | x99*x98*x97+x99*x98+x99
+Ok | x1*x0+x1+x0+1
+Ok | x1^2+x1
+Ok | x1+x0^65535
+Ok | 10*x10-100
+Order { at: 1 } | 1-x0
+Number { at: 3 } | x0^1
+Order { at: 3 } | x0*x1
+Syntax { at: 1 } | 2x0
+Syntax { at: 1 } | x
+Syntax { at: 0 } | 
+Syntax { at: 1 } | -
+Syntax { at: 0 } | +x0
+Syntax { at: 1 } | -0
+Syntax { at: 1 } | 00
+Syntax { at: 1 } | 0+x0
+Syntax { at: 1 } | 01
+Syntax { at: 1 } | 1*x0
+Syntax { at: 2 } | -1*x0
+Syntax { at: 3 } | x0-0
+Syntax { at: 2 } | x01
+Syntax { at: 3 } | x0*
+Syntax { at: 3 } | x0^
+Syntax { at: 3 } | x0^x1
+Syntax { at: 4 } | x0^02
+Syntax { at: 2 } | 2*3
+Syntax { at: 3 } | x0*2
+Syntax { at: 2 } | x0 
+Syntax { at: 0 } |  x0
+Syntax { at: 3 } | x0+
+Syntax { at: 3 } | x0--x1
+Syntax { at: 3 } | x0++x1
+Syntax { at: 4 } | x0^2^3
+Syntax { at: 0 } | y0
+Syntax { at: 1 } | x-1
+Syntax { at: 2 } | 2*
+Syntax { at: 6 } | 11*x0-01
+Syntax { at: 11 } | x0*x1+x100*
+Syntax { at: 5 } | x0^1+
+Number { at: 1 } | x100
+Number { at: 5 } | x99+x100
+Number { at: 1 } | x4294967296
+Number { at: 3 } | x0^0
+Number { at: 3 } | x0^65536
+Ok | x0^65535
+Number { at: 0 } | 170141183460469231731687303715884105728
+Number { at: 1 } | -170141183460469231731687303715884105728
+Number { at: 3 } | x1-170141183460469231731687303715884105728*x0
+Number { at: 1 } | x999999999999999999999999999999999999999999999999999999999999
+Number { at: 0 } | 100000000000000000000000000000000000000000000000000000000000000000000000000000000
+Number { at: 3 } | x0^9999999999999999999999999999999999999999
+Number { at: 11 } | 1-x0+x0*x1^1
+Number { at: 7 } | x0*x1+x200
+Order { at: 2 } | x0+x1
+Order { at: 2 } | x0-x0
+Order { at: 2 } | x1-x1^2
+Order { at: 3 } | x0*x0
+Order { at: 8 } | 3*x2*x0*x1
+Order { at: 4 } | -x0*x1
+Order { at: 1 } | 1+1
+Order { at: 8 } | x2+x1*x0-x0*x1
+Order { at: 6 } | x2+x0*x1
+Order { at: 2 } | x1-x0*x2
+Order { at: 4 } | x1^2-x1*x1
+Order { at: 8 } | x1^3-x1*x1
+Order { at: 2 } | x1-x0*x1+x5
+Order { at: 6 } | x3-x1*x1^65535
+Order { at: 5 } | x2*x1-x2*x0*x1
+Order { at: 8 } | x3^2-x1*x3*x1
+Order { at: 4 } | x3^5-x0*x1*x2*x3*x0*x1*x2*x3*x0*x1*x2*x3*x0*x1*x2*x3*x0*x1*x2*x3
+Order { at: 8 } | x3^6-x0*x1*x2*x3*x0*x1*x2*x3*x0*x1*x2*x3*x0*x1*x2*x3*x0*x1*x2*x3
+Order { at: 8 } | x9+x8-x7+x9
+Order { at: 3 } | x0*x1*x2+x5
+Order { at: 2 } | x0+x0*x1
+Number { at: 1 } | x100+x200
+Number { at: 7 } | x0+x1+x100+x200
+Syntax { at: 8 } | x100+x0*
+Syntax { at: 6 } | x0+x1+"#;
+
+fn poly_answer(alloc: Global, text: &str) -> Result<String, AllocError> {
+    match read_poly(alloc, text.as_bytes(), 100) {
+        Ok(poly) => {
+            let mut again = Vec::new(alloc);
+            write_poly(&poly, &mut again)?;
+            if again.as_slice() == text.as_bytes() {
+                String::from_str(alloc, "Ok")
+            } else {
+                String::from_str(alloc, "another text")
+            }
+        }
+        Err(fault) => format!(in alloc; "{fault:?}"),
+    }
+}
 
 /// In each line the answer and the file.
-const TABLE: &str = r#"Ok | {"labels":1,"products":[]}
+const PROBLEMS: &str = r#"Ok | {"labels":1,"products":[]}
 Ok | {"labels":2,"products":[[1,1,0]]}
 Ok |  { "products" : [ [ 1 , 1 , 0 ] ] , "labels" : 2 } 
 Ok | {"labels":2,"products":[[0,1,1],[1,1,0]]}
@@ -144,46 +249,45 @@ GaugeSymbol { entry: 0 } | {"labels":2,"products":[[1,1,0]],"gauge":[{"symbol":[
 GaugeSymbol { entry: 1 } | {"labels":2,"products":[[1,1,0]],"gauge":[{"symbol":["F",1,1,1,1,0,0],"value":"1"},{"symbol":["R",1,1,1],"value":"1"}]}
 GaugeSymbol { entry: 0 } | {"labels":2,"products":[[1,1,0]],"gauge":[{"symbol":["R",1,1,1],"value":"1"},{"symbol":["R",1,1,1],"value":"1"}]}"#;
 
-fn answer(alloc: Global, text: &str) -> Result<String, AllocError> {
-    match read_problem(alloc, text.as_bytes()) {
+fn problem_answer(alloc: Global, bytes: &[u8]) -> Result<String, AllocError> {
+    match read_problem(alloc, bytes) {
         Ok(_) => String::from_str(alloc, "Ok"),
         Err(fault) => format!(in alloc; "{fault:?}"),
     }
 }
 
-fn is_right<R: Abort + AllocGlobal>(rt: &R, line: &str) -> Result<(), AllocError> {
-    match line.split_once(" | ") {
-        Some((expected, text)) => {
-            let found = answer(rt.alloc(), text)?;
-            assert_eq!(rt; found.as_str(), expected, "{line}");
+/// The gauge of a problem of the ring of two elements.
+fn gauge_of(alloc: Global, text: &str) -> Result<String, Fail> {
+    let problem = read_problem(alloc, text.as_bytes())?;
+    let (labels, is_channel) = (problem.ring().labels(), problem.ring().channel(1, 1, 0));
+    Ok(format!(in alloc; "{labels} {is_channel} {:?}", problem.gauge())?)
+}
+
+#[test]
+fn of_polynomials(rt: HostRuntime) -> Result<(), Fail> {
+    for line in POLYNOMIALS.lines() {
+        if let Some((expected, text)) = line.split_once(" | ") {
+            is(&rt, &poly_answer(rt.alloc(), text)?, expected);
         }
-        None => assert!(rt; false, "{line}"),
     }
     Ok(())
 }
 
 #[test]
-fn files(rt: HostRuntime) -> Result<(), Fail> {
-    for line in TABLE.lines() {
-        is_right(&rt, line)?;
+fn of_problems(rt: HostRuntime) -> Result<(), Fail> {
+    let alloc = rt.alloc();
+    for line in PROBLEMS.lines() {
+        if let Some((expected, text)) = line.split_once(" | ") {
+            is(&rt, &problem_answer(alloc, text.as_bytes())?, expected);
+        }
     }
     let bytes = b"{\"labels\":1,\"products\":[],\"name\":\"\xff\"}";
-    assert_eq!(rt; read_problem(rt.alloc(), bytes).is_err(), true);
-    Ok(())
-}
-
-#[test]
-fn parts(rt: HostRuntime) -> Result<(), Fail> {
-    let text =
-        "{\"labels\":2,\"products\":[[1,1,0]],\"gauge\":[{\"symbol\":[\"R\",1,1,0],\"value\":\"-7\"}]}";
-    let problem = read_problem(rt.alloc(), text.as_bytes())?;
-    assert_eq!(rt; problem.ring().labels(), 2);
-    assert_eq!(rt; problem.ring().channel(1, 1, 0), true);
-    let entry = GaugeEntry {
-        symbol: Symbol::Rsym { a: 1, b: 1, c: 0 },
-        value: -7,
-    };
-    assert_eq!(rt; problem.gauge(), [entry].as_slice());
-    problem_answer_law();
+    is(&rt, &problem_answer(alloc, bytes)?, "NotJson");
+    let text = r#"{"labels":2,"products":[[1,1,0]],"gauge":[{"symbol":["R",1,1,0],"value":"-7"}]}"#;
+    is(
+        &rt,
+        &gauge_of(alloc, text)?,
+        "2 true [GaugeEntry { symbol: Rsym { a: 1, b: 1, c: 0 }, value: -7 }]",
+    );
     Ok(())
 }
