@@ -10,8 +10,8 @@ use crate::sides::compare_sides;
 use sparse_poly::Poly;
 use std::alloc::{AllocError, Global};
 
-/// Checks that all lines are good. `BadLine` comes exactly where a line is bad: it names the first one, and its first cause in the order of
-/// `LineCause`.
+/// Checks that all lines are good, each over the lines before it. `BadLine` comes exactly where a line is bad: it names the first one, and its
+/// first cause in the order of `LineCause`. `Lost` never comes.
 pub fn check_lines(
     alloc: Global,
     root: &[Poly],
