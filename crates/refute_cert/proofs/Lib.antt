@@ -1,0 +1,12 @@
+pub mod Endings
+pub mod FewerConditions
+pub mod Places
+pub mod GoodCones
+pub mod OneCone
+pub mod Pushes
+pub mod NeededItems
+pub mod KeptPlaces
+pub mod Rested
+pub mod Divisors
+pub mod RestTests
+pub mod RestSets
