@@ -1,6 +1,6 @@
 //! The work of the crate `poly_bench` in plain Rust: the same polynomials, combinations and checksum, with early sums.
 //!
-//! The arguments are those of `poly_bench`: ROUNDS TERMS SHORT VARIABLES POWERS [product | strip | reading]. A last word says how monomials
+//! The arguments are those of `poly_bench`: ROUNDS TERMS SHORT VARIABLES POWERS [product | strip | reading | quotient | refused]. A last word says how monomials
 //! are stored: `listed` (as without it), up to six powers in the value; `keyed`, up to eight powers of 32 bits in the value; `mixed`, as `keyed`, and operations in at most eight variables are done on words of eight exponents; `packed`, for at most eight
 //! variables, all exponents in one word throughout.
 mod monomial;
@@ -9,7 +9,7 @@ mod rows;
 mod words;
 
 use monomial::{Keyed, Listed, Monomial, Packed, PACKED};
-use poly::{combine, from_shares, share, strip, times, Fault, Term};
+use poly::{combine, from_shares, quotient, share, strip, times, Fault, Term};
 use std::process::ExitCode;
 
 /// The xorshift generator with the shifts 13, 7 and 17, begun at a fixed number.
@@ -83,6 +83,8 @@ enum Operation {
     Product,
     Strip,
     Reading,
+    Quotient,
+    Refused,
 }
 
 /// The polynomial that an operation on `l`, `q`, `a` and `p` makes.
@@ -96,12 +98,21 @@ fn run<M: Monomial>(plan: &Plan, combine: Made<M>, times: Made<M>) -> Result<u64
     let a = random_poly::<M>(&mut numbers, plan, plan.short)?;
     let unit = M::power((1, 1)).times(&M::power((0, 2))).ok_or(Fault)?;
     let whole = times(&[Term { monomial: unit, coeff: 6 }], &q, &[], &[])?;
+    let product = times(&l, &q, &a, &p)?;
+    let mut changed = times(&l, &q, &a, &p)?;
+    let middle = changed.len() / 2;
+    if let Some(term) = changed.get_mut(middle) {
+        term.coeff *= 2;
+    }
+    let quotient_or_one = |p: &[Term<M>]| quotient(p, &l, |g, n| times(g, n, &[], &[]).is_ok()).unwrap_or_else(|| vec![Term { monomial: M::one(), coeff: 1 }]);
     let mut sum = 0u64;
     for round in 0..plan.rounds {
         let made = match plan.operation {
             Operation::Combination => combine(&l, &q, &a, &p)?,
             Operation::Product => times(&l, &q, &a, &p)?,
             Operation::Strip => strip(&whole, &[0, 1])?,
+            Operation::Quotient => quotient_or_one(&product),
+            Operation::Refused => quotient_or_one(&changed),
             Operation::Reading => {
                 sum = sum.wrapping_add(checksum(&q));
                 continue;
@@ -125,9 +136,11 @@ fn plan(mut words: Vec<String>) -> Option<Plan> {
         Some("product") => Operation::Product,
         Some("strip") => Operation::Strip,
         Some("reading") => Operation::Reading,
+        Some("quotient") => Operation::Quotient,
+        Some("refused") => Operation::Refused,
         _ => Operation::Combination,
     };
-    words.pop_if(|word| ["product", "strip", "reading"].contains(&word.as_str()));
+    words.pop_if(|word| ["product", "strip", "reading", "quotient", "refused"].contains(&word.as_str()));
     let [rounds, terms, short, variables, powers] = words.as_slice() else {
         return None;
     };
@@ -146,7 +159,7 @@ fn plan(mut words: Vec<String>) -> Option<Plan> {
 
 fn main() -> ExitCode {
     let Some(plan) = plan(std::env::args().skip(1).collect()) else {
-        eprintln!("plain_poly: wanted: ROUNDS TERMS SHORT VARIABLES POWERS [product | strip | reading] [packed | mixed | keyed | listed], of which VARIABLES is at least 1, and at most 8 where packed");
+        eprintln!("plain_poly: wanted: ROUNDS TERMS SHORT VARIABLES POWERS [product | strip | reading | quotient | refused] [packed | mixed | keyed | listed], of which VARIABLES is at least 1, and at most 8 where packed");
         return ExitCode::from(2);
     };
     let answer = match plan.form {

@@ -21,6 +21,13 @@ pub trait Monomial: Sized {
     /// The quotient by a monomial that divides this one.
     fn over(&self, divisor: &Self) -> Self;
 
+    /// Whether no exponent is above that of another monomial.
+    fn divides(&self, other: &Self) -> bool {
+        let mut divides = true;
+        self.each_power(|(var, exp)| divides &= exp <= other.exponent(var));
+        divides
+    }
+
     /// The order by the exponent of the greatest variable in which two monomials differ.
     fn order(&self, other: &Self) -> Ordering;
 
@@ -181,6 +188,14 @@ impl Monomial for Packed {
     #[inline]
     fn over(&self, divisor: &Packed) -> Packed {
         Packed(self.0 - divisor.0)
+    }
+
+    #[inline]
+    fn divides(&self, other: &Packed) -> bool {
+        if (self.0 | other.0) & HIGH_BITS == 0 {
+            return ((other.0 | HIGH_BITS) - self.0) & HIGH_BITS == HIGH_BITS;
+        }
+        (0..PACKED).all(|var| self.exponent(var) <= other.exponent(var))
     }
 
     #[inline]

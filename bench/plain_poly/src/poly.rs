@@ -1,6 +1,7 @@
 //! Polynomials as lists of terms that fall by their monomials, combined by halves with early sums.
 use crate::monomial::Monomial;
 use std::cmp::Ordering;
+use std::collections::VecDeque;
 
 /// A monomial with its coefficient.
 pub struct Term<M> {
@@ -215,4 +216,53 @@ pub fn strip<M: Monomial>(terms: &[Term<M>], units: &[u32]) -> Result<Vec<Term<M
     }
     let coeff = |coeff: i128| if content == 1 { coeff } else { coeff / content };
     Ok(terms.iter().map(|term| Term { monomial: term.monomial.over(&unit), coeff: coeff(term.coeff) }).collect())
+}
+
+/// The term whose product with the divisor is a term, where there is one.
+fn term_over<M: Monomial>(term: &Term<M>, divisor: &Term<M>) -> Option<Term<M>> {
+    let coeff = match (i64::try_from(term.coeff), i64::try_from(divisor.coeff)) {
+        (Ok(x), Ok(y)) => (x % y == 0).then(|| i128::from(x / y)),
+        _ => (term.coeff % divisor.coeff == 0).then(|| term.coeff / divisor.coeff),
+    }?;
+    divisor.monomial.divides(&term.monomial).then(|| Term { monomial: term.monomial.over(&divisor.monomial), coeff })
+}
+
+/// What is left of a polynomial once the products of a term and others are taken off, where no coefficient is out of range.
+fn less<M: Monomial>(mut rest: VecDeque<Term<M>>, term: &Term<M>, others: &[Term<M>]) -> Option<VecDeque<Term<M>>> {
+    let mut made = Vec::new();
+    for other in others {
+        let monomial = term.monomial.times(&other.monomial)?;
+        let coeff = term.coeff.checked_mul(other.coeff)?;
+        while let Some(x) = rest.pop_front_if(|x| x.monomial.order(&monomial) == Ordering::Greater) {
+            made.push(x);
+        }
+        match rest.pop_front_if(|x| x.monomial.order(&monomial) == Ordering::Equal) {
+            Some(x) => match x.coeff.checked_sub(coeff)? {
+                0 => {}
+                coeff => made.push(Term { monomial, coeff }),
+            },
+            None => made.push(Term { monomial, coeff: -coeff }),
+        }
+    }
+    while let Some(x) = made.pop() {
+        rest.push_front(x);
+    }
+    Some(rest)
+}
+
+/// The quotient by a polynomial that divides, where the product is light.
+pub fn quotient<M: Monomial>(terms: &[Term<M>], divisor: &[Term<M>], is_light: impl Fn(&[Term<M>], &[Term<M>]) -> bool) -> Option<Vec<Term<M>>> {
+    let (leading, others) = divisor.split_first()?;
+    if let (Some(last), Some(lowest)) = (terms.last(), divisor.last()) {
+        term_over(last, lowest)?;
+    }
+    let same = |term: &Term<M>| Term { monomial: term.monomial.over(&M::one()), coeff: term.coeff };
+    let mut rest: VecDeque<Term<M>> = terms.iter().map(same).collect();
+    let mut made = Vec::new();
+    while let Some(term) = rest.pop_front() {
+        let next = term_over(&term, leading)?;
+        rest = less(rest, &next, others)?;
+        made.push(next);
+    }
+    is_light(&made, divisor).then_some(made)
 }

@@ -4,12 +4,13 @@
 //! from SHORT terms each. A term is the product of POWERS random powers of the variables below VARIABLES, times a number from 1 to 9. Each round makes
 //! `l*q - a*p`, or the product `l*q` where a sixth word `product` is given, or, with the word `strip`, the rest of `6*x1*x0^2*q` where `x0` and `x1` are
 //! units, and adds the number of its terms; the last round adds a number that depends on each power and coefficient. With the sixth word `reading`
-//! each round adds that number of `q`.
+//! each round adds that number of `q`. With the word `quotient` each round makes the quotient of `l*q` by `l`, and with the word `refused` that of
+//! `l*q` whose middle term is doubled; where there is none, the constant 1 stands for it.
 #![tactic(auto)]
 
 mod making;
 
-use making::{Numbers, Shape, random_poly, unit_term, units};
+use making::{Numbers, Shape, random_poly, unit_term, units, with_middle_twice};
 use monomial::{MonoFault, Monomial};
 use sparse_poly::{Poly, PolyFault};
 use std::alloc::{AllocError, AllocFailed, Global};
@@ -23,6 +24,8 @@ enum Operation {
     Product,
     Strip,
     Reading,
+    Quotient,
+    Refused,
 }
 
 /// What a run is asked for.
@@ -93,7 +96,7 @@ fn main(rt: HostRuntime) -> io::Result<ExitCode> {
 fn told(fault: &Fault) -> &'static str {
     match fault {
         Fault::Usage =>
-            "wanted: ROUNDS TERMS SHORT VARIABLES POWERS [product | strip | reading], of which VARIABLES is at least 1",
+            "wanted: ROUNDS TERMS SHORT VARIABLES POWERS [product | strip | reading | quotient | refused], of which VARIABLES is at least 1",
         Fault::Range => "an exponent or a coefficient is out of range",
         Fault::OutOfMemory => "out of memory",
     }
@@ -117,10 +120,11 @@ fn answer(rt: &HostRuntime) -> Result<u64, Fault> {
 // The plan that the words give, and `None` for words that give none.
 fn read_plan(words: &[String]) -> Option<Plan> {
     let (numbers, operation) = match words {
-        [numbers @ .., last] if last.as_str() == "product" => (numbers, Operation::Product),
-        [numbers @ .., last] if last.as_str() == "strip" => (numbers, Operation::Strip),
-        [numbers @ .., last] if last.as_str() == "reading" => (numbers, Operation::Reading),
-        numbers => (numbers, Operation::Combination),
+        [numbers @ .., last] => match operation_of(last.as_str()) {
+            Some(operation) => (numbers, operation),
+            None => (words, Operation::Combination),
+        },
+        [] => return None,
     };
     let [rounds, terms, short, variables, powers] = numbers else {
         return None;
@@ -146,6 +150,18 @@ fn read_plan(words: &[String]) -> Option<Plan> {
     })
 }
 
+// The operation that a word names.
+fn operation_of(word: &str) -> Option<Operation> {
+    match word {
+        "product" => Some(Operation::Product),
+        "strip" => Some(Operation::Strip),
+        "reading" => Some(Operation::Reading),
+        "quotient" => Some(Operation::Quotient),
+        "refused" => Some(Operation::Refused),
+        _ => None,
+    }
+}
+
 // The number that a word is.
 fn number(word: &String) -> Option<u32> {
     word.as_str().parse::<u32>().ok()
@@ -160,12 +176,16 @@ fn run(alloc: Global, plan: &Plan) -> Result<u64, Fault> {
     let a = random_poly(alloc, &mut numbers, &plan.short)?;
     let units = units(alloc)?;
     let whole = unit_term(alloc)?.times(&q)?;
+    let product = l.times(&q)?;
+    let changed = with_middle_twice(alloc, &product)?;
     let mut sum = 0u64;
     for round in 0..plan.rounds {
         let made = match plan.operation {
             Operation::Combination => Poly::combine(alloc, &l, &q, &a, &p)?,
             Operation::Product => l.times(&q)?,
             Operation::Strip => whole.strip(&units)?.rest,
+            Operation::Quotient => quotient_or_one(alloc, &product, &l)?,
+            Operation::Refused => quotient_or_one(alloc, &changed, &l)?,
             Operation::Reading => {
                 sum = sum.wrapping_add(checksum(&q));
                 continue;
@@ -179,6 +199,17 @@ fn run(alloc: Global, plan: &Plan) -> Result<u64, Fault> {
         sum = sum.wrapping_add(told);
     }
     Ok(sum)
+}
+
+// The quotient of a polynomial by another, or the constant 1 where there is none.
+fn quotient_or_one(alloc: Global, poly: &Poly, divisor: &Poly) -> Result<Poly, Fault> {
+    if !divisor.is_zero() {
+        if let Some(quotient) = poly.quotient(divisor)? {
+            return Ok(quotient);
+        }
+    }
+    let one = Poly::constant(alloc, 1)?;
+    Ok(one)
 }
 
 // A number that depends on each term.

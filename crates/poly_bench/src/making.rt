@@ -94,3 +94,22 @@ pub fn unit_term(alloc: Global) -> Result<Poly, Fault> {
         Err(fault) => Err(Fault::from(fault)),
     }
 }
+
+/// The polynomial with its middle term doubled.
+pub fn with_middle_twice(alloc: Global, poly: &Poly) -> Result<Poly, Fault> {
+    let mut terms = Vec::new(alloc);
+    let all = poly.terms();
+    if let Some(middle) = all.get(all.len() / 2) {
+        terms.push(Term {
+            monomial: middle.monomial.copy()?,
+            coeff: middle.coeff,
+        })?;
+    }
+    match Poly::from_terms(alloc, terms) {
+        Ok(middle) => match poly.plus(&middle) {
+            Ok(sum) => Ok(sum),
+            Err(fault) => Err(Fault::from(fault)),
+        },
+        Err(fault) => Err(Fault::from(fault)),
+    }
+}
