@@ -7,7 +7,7 @@
 mod making;
 
 use derive_lines::{LineStop, check_back, check_lines};
-use making::{Derivation, derivation};
+use making::{Derivation, derived};
 use sparse_poly::PolyFault;
 use std::alloc::{AllocError, AllocFailed, Global};
 use std::process::ExitCode;
@@ -106,7 +106,7 @@ fn number(word: &String) -> Option<u32> {
 
 // Makes the derivation and checks it in rounds.
 fn run(alloc: Global, rounds: u32, pairs: u32) -> Result<u64, Fault> {
-    let made = derivation(alloc, pairs)?;
+    let made = derived(alloc, pairs)?;
     let mut passed = 0u64;
     for _ in 0..rounds {
         check(alloc, &made)?;

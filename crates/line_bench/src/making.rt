@@ -15,7 +15,7 @@ pub struct Derivation {
 }
 
 /// The derivation with this many pairs of equations and of lines.
-pub fn derivation(alloc: Global, pairs: u32) -> Result<Derivation, Fault> {
+pub fn derived(alloc: Global, pairs: u32) -> Result<Derivation, Fault> {
     let mut made = Derivation {
         root: Vec::new(alloc),
         decisions: Vec::new(alloc),
