@@ -1,7 +1,7 @@
 -- Lists whose main variables differ, as far as they have been read.
-use Rattle.std.specs.Prelude.{◌≡◌, ◌≢◌, ◌<◌, ◌≤◌, ℕ, zero, suc, ◌+◌, ◌⊎◌, List, [], ◌∷◌, take, slice_get, slice_index_or, length, refl}
+use Rattle.std.specs.Prelude.{◌≡◌, ◌≢◌, ◌<◌, ◌≤◌, ℕ, zero, suc, ◌+◌, ◌⊎◌, List, [], ◌∷◌, take, slice_get, slice_index_or, length}
 use mathlib.Core.Logic.{inl, inr}
-use Rattle.std.proofs.Common.{arith, sym, ◌∙◌, ap, subst}
+use Rattle.std.proofs.Common.{arith, sym, ◌∙◌, ap}
 use Rattle.std.proofs.lemmas.Option.{none-some, same_Some, slice_get_within, get_or_from_slice_get, slice_get-get_or}
 use Rattle.std.specs.declared.option.Option.TheVariants.{None, Some}
 use Rattle.sparse_poly.specs.declared.Term.{Term}

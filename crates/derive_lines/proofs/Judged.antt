@@ -1,8 +1,6 @@
 -- A line by what was found of its references, its multiplier and its sides.
-use mathlib.Core.Logic.{inl, inr}
-use Rattle.std.specs.Prelude.{◌≡◌, ℕ, suc, ◌+◌, ◌<◌, ◌≤◌, ◌⊎◌, List, take, slice_get, length, MatchOption, IfOk}
-use Rattle.std.proofs.Common.{arith, sym, ◌∙◌, ap, subst}
-use Rattle.std.proofs.lemmas.Option.{same_Some, slice_get_within}
+use Rattle.std.specs.Prelude.{◌≡◌, List, MatchOption, IfOk}
+use Rattle.std.proofs.Common.{sym, subst}
 use Rattle.std.specs.declared.option.Option.{Option}
 use Rattle.std.specs.declared.option.Option.TheVariants.{None, Some}
 use Rattle.std.specs.declared.result.Result.{Result}
@@ -16,7 +14,7 @@ use Rattle.derive_lines.specs.declared.parts.Line.{Line}
 use Rattle.derive_lines.specs.declared.parts.Way.{Way}
 use Rattle.derive_lines.specs.declared.parts.LineCause.{LineCause}
 use Rattle.derive_lines.specs.declared.parts.LineCause.TheVariants.{Reference, Multiplier, Degree, Heavy, Identity}
-use Rattle.derive_lines.specs.Lines.{conditions, Refers, reduced, rest, multiplier, left_side, right_side, SidesAgree, IsBadSide, IsGoodLine, IsBadLine, AreGoodLines, AreGoodBefore}
+use Rattle.derive_lines.specs.Lines.{conditions, Refers, reduced, rest, multiplier, left_side, right_side, SidesAgree, IsBadSide, IsGoodLine, IsBadLine}
 
 module _ (root : List (List Term)) (ds : List Decision) (before : List Line) (line : Line) (from by : List Term) where
   judged : (o : Option LineCause) → Refers root ds before line from by → IsUnit (conditions ds) (multiplier line) → MatchOption o (SidesAgree (left_side line from by) (right_side line from)) (IsBadSide (left_side line from by) (right_side line from)) → MatchOption o (IsGoodLine root ds before line) (IsBadLine root ds before line)

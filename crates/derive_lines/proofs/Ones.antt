@@ -1,5 +1,5 @@
 -- Sides with the constant 1 as their multiplier.
-use Rattle.std.specs.Prelude.{◌≡◌, pos, negsuc, List, [], ◌∷◌, ◌++◌, IfOk, MatchOption, refl}
+use Rattle.std.specs.Prelude.{◌≡◌, pos, negsuc, List, [], IfOk, MatchOption, refl}
 use Rattle.std.proofs.Common.{sym, ◌∙◌, subst}
 use Rattle.std.proofs.lemmas.List.{append-nil}
 use Rattle.std.specs.declared.option.Option.{Option}

@@ -1,15 +1,15 @@
 -- The values of what lines make and recover: all items vanish where the root vanishes and the decisions hold, and what is recovered vanishes where
 -- the given polynomials do and no condition does.
-use Rattle.std.specs.Prelude.{◌≡◌, ◌≢◌, ◌<◌, ◌≤◌, ℕ, zero, suc, ◌⊎◌, Bool, true, false, if◌then◌else◌, ℤ, pos, List, [], ◌∷◌, ◌++◌, length, take, slice_get, slice_index_or, Contains, All, refl}
+use Rattle.std.specs.Prelude.{◌≡◌, ◌≢◌, ℕ, zero, suc, ◌⊎◌, true, false, if◌then◌else◌, List, [], ◌∷◌, take, slice_get, Contains, refl}
 use mathlib.Core.Logic.{inl, inr}
 use Rattle.std.proofs.Common.{arith, sym, ◌∙◌, ap, subst}
 use Rattle.std.proofs.lemmas.Option.{none-some, same_Some, slice_get_within, get_or_from_slice_get}
 use Rattle.std.specs.declared.option.Option.{Option}
 use Rattle.std.specs.declared.option.Option.TheVariants.{None, Some}
 use Rattle.field_laws.specs.Field.{Field, IsField, IsElement, whole, AllElements}
-use Rattle.field_laws.proofs.FieldSteps.{whole_is, whole_apart, times-zero, zero-times, zero-plus, plus_swap, minus-zero, other_zero}
+use Rattle.field_laws.proofs.FieldSteps.{whole_is, whole_apart, times-zero, plus_swap, minus-zero, other_zero}
 use Rattle.sparse_poly.specs.declared.Term.{Term}
-use Rattle.sparse_poly.specs.Polynomials.{eval, products, constant, IsSum}
+use Rattle.sparse_poly.specs.Polynomials.{eval, products, IsSum}
 use Rattle.sparse_poly.specs.Contributions.{contributions}
 use Rattle.sparse_poly.specs.Units.{AllNonzero}
 use Rattle.sparse_poly.proofs.Evaluation.{eval_is, eval-same, combined_value, product_value}
@@ -22,8 +22,8 @@ use Rattle.derive_lines.specs.declared.parts.Item.TheVariants.{Root, Decision as
 use Rattle.derive_lines.specs.declared.parts.Way.{Way}
 use Rattle.derive_lines.specs.declared.parts.Way.TheVariants.{Fwd, Back}
 use Rattle.derive_lines.specs.Lines.{conditions, zero_poly, made_poly, item_poly, operand, reduced, rest, multiplier_in, IsGoodLine, AreGoodLines}
-use Rattle.derive_lines.specs.Recovery.{LeadsBack, IsRecovered, is_given, is_zero, by_line}
-use Rattle.derive_lines.specs.Refuting.{IsNonzeroConstant, IsContradiction, Refutes, IsSo, AllVanish, AllHold}
+use Rattle.derive_lines.specs.Recovery.{IsRecovered, is_given, is_zero, by_line}
+use Rattle.derive_lines.specs.Refuting.{IsNonzeroConstant, IsContradiction, IsSo, AllVanish, AllHold}
 
 -- an element among the first n + 1 is among the first n, or is the one at n
 pub slice_get-take_more : {X : Type 0} (xs : List X) (n k : ℕ) (x : X) → slice_get (take (suc n) xs) k ≡ Some x → (slice_get (take n xs) k ≡ Some x) ⊎ (slice_get xs n ≡ Some x)

@@ -1,11 +1,10 @@
 -- In l*q - a*p the terms of the highest power of the variable cancel.
-use Rattle.std.specs.Prelude.{◌≡◌, ◌≢◌, ◌<◌, ◌≤◌, ℕ, zero, suc, ◌+◌, ◌-◌, ◌⊎◌, ◌==◌, Bool, true, false, if◌then◌else◌, max, ℤ, pos, neg_ℤ, ◌+ℤ◌, ◌*ℤ◌, List, [], ◌∷◌, ◌++◌, refl}
+use Rattle.std.specs.Prelude.{◌≡◌, ◌≢◌, ◌<◌, ◌≤◌, ℕ, zero, suc, ◌+◌, ◌-◌, ◌⊎◌, ◌==◌, true, false, if◌then◌else◌, max, ℤ, pos, neg_ℤ, ◌+ℤ◌, ◌*ℤ◌, List, [], ◌∷◌, refl}
 use mathlib.Core.Logic.{inl, inr}
 use Rattle.std.proofs.Common.{arith, sym, ◌∙◌, ap, subst}
 use Rattle.std.proofs.lemmas.Int.{ints}
 use Rattle.std.proofs.lemmas.Bool.Decides.{eqb_tells}
 use Rattle.std.proofs.Math.IntN.{*ℤ_comm}
-use Rattle.std.specs.List.{AllByRecursion}
 use Rattle.monomial.specs.Monomials.{exponent, monomial_times, without, IsPowers}
 use Rattle.monomial.proofs.Exponents.{exponent_here, exponent_there, exponent-times, IsPowers-times, IsPowers-without, exponent-without, exponent-without_own, same_from_exponents}
 use Rattle.sparse_poly.specs.declared.Term.{Term}
@@ -13,7 +12,7 @@ use Rattle.sparse_poly.specs.Polynomials.{is_of, coefficient, term_times, row, p
 use Rattle.sparse_poly.specs.OrderLaws.{same_term}
 use Rattle.sparse_poly.specs.Reads.{degree_in, coefficient_of_power, leading_in}
 use Rattle.sparse_poly.proofs.Evaluation.{zero_plus, coefficient-append, coefficient-negated}
-use Rattle.pseudo_rem.specs.Steps.{raised, times_power, cofactor, step_contributions, CanReduce}
+use Rattle.pseudo_rem.specs.Steps.{times_power, cofactor, step_contributions, CanReduce}
 use Rattle.pseudo_rem.proofs.Degrees.{AllPowers, degree_in-products, coefficient_beyond, no_share}
 
 -- a term without a variable, and times a power of it

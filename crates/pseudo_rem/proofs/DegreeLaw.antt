@@ -1,5 +1,5 @@
 -- A reduction lowers the degree in its variable, and raises it in none that does not occur in p.
-use Rattle.std.specs.Prelude.{◌≡◌, ◌≢◌, ◌<◌, ◌≤◌, ℕ, suc, ◌-◌, max, Bool, true, false, if◌then◌else◌, nat_lt, pos, List, [], ◌∷◌, refl}
+use Rattle.std.specs.Prelude.{◌≡◌, ◌≢◌, ◌<◌, ◌≤◌, ℕ, suc, ◌-◌, Bool, true, false, if◌then◌else◌, nat_lt, pos, List, [], ◌∷◌, refl}
 use Rattle.std.proofs.lemmas.Bool.Decides.{nat_tests}
 use Rattle.std.proofs.Common.{arith, sym, ◌∙◌, ap, subst}
 use Rattle.std.specs.declared.option.Option.{Option}

@@ -1,14 +1,13 @@
 -- The degree in a variable: of sums and products, and of what their coefficients leave.
-use Rattle.std.specs.Prelude.{◌≡◌, ◌≢◌, ◌<◌, ◌≤◌, ℕ, zero, suc, ◌+◌, ◌⊎◌, ◌==◌, Bool, true, false, if◌then◌else◌, max, ℤ, pos, ◌+ℤ◌, List, [], ◌∷◌, ◌++◌, leb, refl}
+use Rattle.std.specs.Prelude.{◌≡◌, ◌≢◌, ◌<◌, ◌≤◌, ℕ, ◌+◌, ◌⊎◌, Bool, true, false, if◌then◌else◌, max, pos, ◌+ℤ◌, List, [], ◌∷◌, ◌++◌, leb, refl}
 use mathlib.Core.Logic.{inl, inr}
 use Rattle.std.proofs.Common.{arith, sym, ◌∙◌, ap, subst}
-use Rattle.std.proofs.lemmas.Int.{ints}
 use Rattle.std.proofs.lemmas.Bool.Decides.{leb_tells}
 use Rattle.std.specs.List.{AllByRecursion}
-use Rattle.monomial.specs.Monomials.{exponent, monomial_times, IsPowers, IsMonomial}
+use Rattle.monomial.specs.Monomials.{exponent, IsPowers, IsMonomial}
 use Rattle.monomial.proofs.Exponents.{exponent-times}
 use Rattle.sparse_poly.specs.declared.Term.{Term}
-use Rattle.sparse_poly.specs.Polynomials.{is_of, coefficient, term_times, row, products, negated}
+use Rattle.sparse_poly.specs.Polynomials.{is_of, coefficient, row, products, negated}
 use Rattle.sparse_poly.specs.Contributions.{IsFalling, IsPoly}
 use Rattle.sparse_poly.specs.Reads.{degree_in}
 use Rattle.sparse_poly.specs.Units.{IsStripped}

@@ -1,12 +1,11 @@
 -- The factor of an initial has no variable that is not below the main one.
-use Rattle.std.specs.Prelude.{◌≡◌, ◌≢◌, ◌<◌, ◌≤◌, ℕ, suc, ◌+◌, ◌⊎◌, pos, List, [], ◌∷◌, ◌++◌, refl}
+use Rattle.std.specs.Prelude.{◌≡◌, ◌≢◌, ◌<◌, ◌≤◌, ℕ, ◌⊎◌, pos, List, [], ◌∷◌, ◌++◌, refl}
 use mathlib.Core.Logic.{inl, inr}
 use Rattle.std.proofs.Common.{arith, sym, ◌∙◌, ap, subst}
-use Rattle.std.specs.declared.option.Option.TheVariants.{Some}
 use Rattle.monomial.specs.Monomials.{exponent, monomial_times, top, IsPowers}
 use Rattle.monomial.proofs.Exponents.{exponent_here, exponent-times}
 use Rattle.sparse_poly.specs.declared.Term.{Term}
-use Rattle.sparse_poly.specs.Polynomials.{coefficient, term_times, row, products, constant, IsSum}
+use Rattle.sparse_poly.specs.Polynomials.{term_times, row, products, constant, IsSum}
 use Rattle.sparse_poly.specs.Contributions.{IsPoly, IsResult}
 use Rattle.sparse_poly.specs.Reads.{degree_in, main_variable, leading_in}
 use Rattle.sparse_poly.specs.Units.{IsStripped}
@@ -16,7 +15,7 @@ use Rattle.sparse_poly.proofs.OneQuotient.{nonzero_product, same_leading, tail_u
 use Rattle.sparse_poly.proofs.Same.{coefficient_leading}
 use Rattle.sparse_poly.proofs.Strips.{row_of_stripped}
 use Rattle.pseudo_rem.specs.Steps.{IsTail}
-use Rattle.pseudo_rem.proofs.Degrees.{AllPowers, AllPowers-poly, degree_in-products, coefficient_beyond, degree_in-below, stripped_below}
+use Rattle.pseudo_rem.proofs.Degrees.{AllPowers-poly, degree_in-products, coefficient_beyond, degree_in-below, stripped_below}
 use Rattle.pseudo_rem.proofs.Cancelling.{degree_in-coefficient, coefficient_below}
 use Rattle.pseudo_rem.proofs.DegreeLaw.{IsAbove, above_main, no_degree}
 

@@ -1,9 +1,9 @@
 -- A full remainder has one list of steps, or one first step that is stopped.
-use Rattle.std.specs.Prelude.{◌≡◌, ◌≢◌, ◌<◌, ◌≤◌, ℕ, ◌⊎◌, pos, List, [], ◌∷◌, slice_get, refl}
+use Rattle.std.specs.Prelude.{◌≡◌, ◌≢◌, ◌<◌, ℕ, ◌⊎◌, pos, List, [], ◌∷◌, slice_get, refl}
 use mathlib.Core.Logic.{inl, inr}
 use Rattle.std.proofs.Common.{arith, sym, ◌∙◌, ap, subst}
-use Rattle.std.proofs.lemmas.Option.{none-some, same_Some, slice_get_within, get_or_from_slice_get}
-use Rattle.std.specs.declared.option.Option.TheVariants.{None, Some}
+use Rattle.std.proofs.lemmas.Option.{same_Some, slice_get_within, get_or_from_slice_get}
+use Rattle.std.specs.declared.option.Option.TheVariants.{Some}
 use Rattle.sparse_poly.specs.declared.Term.{Term}
 use Rattle.sparse_poly.specs.declared.PolyFault.{PolyFault}
 use Rattle.sparse_poly.specs.declared.PolyFault.TheVariants.{Degree, Heavy, OutOfMemory}
@@ -11,7 +11,7 @@ use Rattle.sparse_poly.specs.Reads.{main_variable, leading_in, HaveMainVariables
 use Rattle.sparse_poly.specs.Polynomials.{constant}
 use Rattle.sparse_poly.specs.Contributions.{contributions, IsResult}
 use Rattle.pseudo_rem.specs.Steps.{IsReduction, IsStepFault, IsTailStep, IsTailFault, step_contributions, tail_contributions}
-use Rattle.pseudo_rem.specs.Remainders.{IsDue, IsNextDue, IsNextStep, NoneIsDue, AreNextSteps, rest_of, AreSteps, IsStopped, IsRemainderFault}
+use Rattle.pseudo_rem.specs.Remainders.{IsNextDue, IsNextStep, NoneIsDue, AreNextSteps, rest_of, AreSteps, IsStopped, IsRemainderFault}
 use Rattle.pseudo_rem.specs.declared.steps.Reduction.{Reduction}
 use Rattle.pseudo_rem.specs.declared.remainders.Step.{Step}
 use Rattle.pseudo_rem.proofs.OneStep.{OneStrip, one_step, no_fault, one_fault}

@@ -1,12 +1,12 @@
 -- A polynomial times a power of a variable that does not occur in it.
-use Rattle.std.specs.Prelude.{◌≡◌, ◌≢◌, ◌<◌, ◌≤◌, ◌^◌, ℕ, zero, suc, ◌+◌, ◌-◌, ◌⊎◌, ◌==◌, Bool, if◌then◌else◌, true, false, nat_lt, max, pos, unsigned_abs, List, [], ◌∷◌, refl}
+use Rattle.std.specs.Prelude.{◌≡◌, ◌≢◌, ◌<◌, ◌≤◌, ◌^◌, ℕ, zero, suc, ◌⊎◌, ◌==◌, Bool, true, false, nat_lt, max, pos, unsigned_abs, List, [], ◌∷◌, refl}
 use mathlib.Core.Logic.{inl, inr}
 use Rattle.std.proofs.Common.{arith, sym, ◌∙◌, ap, subst}
 use Rattle.std.proofs.lemmas.Bool.Decides.{nat_tests, eqb_tells}
 use Rattle.std.specs.List.{AllByRecursion}
 use Rattle.std.specs.declared.cmp.Ordering.TheVariants.{Less}
-use Rattle.std.specs.declared.option.Option.TheVariants.{None, Some}
-use Rattle.monomial.specs.Monomials.{exponent, monomial_cmp, monomial_times, too_high, without, IsBelow, IsPowers, IsMonomial}
+use Rattle.std.specs.declared.option.Option.TheVariants.{None}
+use Rattle.monomial.specs.Monomials.{exponent, monomial_cmp, monomial_times, too_high, IsPowers, IsMonomial}
 use Rattle.monomial.proofs.Exponents.{exponent_here, exponent_there, exponent_above, exponent-times, IsPowers-times, IsMonomial-times}
 use Rattle.monomial.proofs.Lower.{monomial_cmp-times}
 use Rattle.sparse_poly.specs.declared.Term.{Term}
@@ -15,7 +15,7 @@ use Rattle.sparse_poly.specs.declared.PolyFault.{PolyFault}
 use Rattle.sparse_poly.specs.declared.PolyFault.TheVariants.{Degree, Heavy, OutOfMemory}
 use Rattle.sparse_poly.proofs.Same.{same_polynomial}
 use Rattle.sparse_poly.proofs.InOrder.{IsResult-own}
-use Rattle.sparse_poly.specs.Reads.{degree_in, coefficient_of_power, leading_in}
+use Rattle.sparse_poly.specs.Reads.{degree_in}
 use Rattle.pseudo_rem.specs.Steps.{raised, times_power, AreLow}
 
 -- a monomial of small exponents is not of too high degree

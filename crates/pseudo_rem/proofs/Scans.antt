@@ -7,12 +7,10 @@ use Rattle.std.proofs.lemmas.Option.{none-some, same_Some, slice_get_within}
 use Rattle.std.specs.declared.option.Option.{Option}
 use Rattle.std.specs.declared.option.Option.TheVariants.{None, Some}
 use Rattle.sparse_poly.specs.declared.Term.{Term}
-use Rattle.sparse_poly.specs.declared.PolyFault.{PolyFault}
-use Rattle.sparse_poly.specs.declared.PolyFault.TheVariants.{Degree, Heavy, OutOfMemory}
 use Rattle.sparse_poly.specs.Reads.{degree_in, main_variable}
 use Rattle.sparse_poly.specs.Contributions.{IsPoly}
-use Rattle.pseudo_rem.specs.Steps.{IsReduction, IsStepFault}
-use Rattle.pseudo_rem.specs.Remainders.{IsDue, IsNextDue, IsNextStep, NoneIsDue, AreNextSteps, rest_of, IsRemainderFault}
+use Rattle.pseudo_rem.specs.Steps.{IsReduction}
+use Rattle.pseudo_rem.specs.Remainders.{IsDue, IsNextDue, IsNextStep, NoneIsDue, AreNextSteps, rest_of}
 use Rattle.pseudo_rem.specs.declared.remainders.Due.{Due}
 use Rattle.pseudo_rem.specs.declared.remainders.Step.{Step}
 use Rattle.pseudo_rem.specs.Scan.{IsUpTo}

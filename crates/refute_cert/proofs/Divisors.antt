@@ -5,7 +5,7 @@ use Rattle.std.proofs.Common.{sym, ◌∙◌, subst}
 use Rattle.std.specs.declared.option.Option.TheVariants.{None}
 use Rattle.sparse_poly.specs.declared.Term.{Term}
 use Rattle.sparse_poly.specs.Reads.{main_variable}
-use Rattle.sparse_poly.specs.Clearing.{IsDivision, IsDividedOut, IsDividedOutBy, by_first, by_later, after}
+use Rattle.sparse_poly.specs.Clearing.{IsDivision, IsDividedOutBy, by_first, by_later, after}
 use Rattle.sparse_poly.proofs.Same.{same_polynomial}
 use Rattle.sparse_poly.proofs.OneQuotient.{one_quotient}
 use Rattle.derive_lines.specs.Known.{Holds}

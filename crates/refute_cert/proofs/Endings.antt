@@ -1,10 +1,9 @@
 -- Contradictions by their tests.
-use Rattle.std.specs.Prelude.{◌≡◌, ◌≢◌, ℕ, zero, suc, ℤ, pos, negsuc, Bool, true, false, List, [], IsTrue, IsSome, refl}
+use Rattle.std.specs.Prelude.{◌≡◌, zero, suc, ℤ, pos, negsuc, Bool, List, [], IsTrue, refl}
 use mathlib.Core.Logic.{inl, inr}
-use Rattle.std.proofs.Common.{sym, ◌∙◌, ap, subst}
+use Rattle.std.proofs.Common.{sym, ◌∙◌}
 use Rattle.sparse_poly.specs.declared.Term.{Term}
 use Rattle.sparse_poly.specs.Polynomials.{constant}
-use Rattle.sparse_poly.specs.Reads.{main_variable}
 use Rattle.derive_lines.specs.declared.parts.Decision.{Decision}
 use Rattle.derive_lines.specs.Lines.{conditions}
 use Rattle.derive_lines.specs.Known.{Holds}

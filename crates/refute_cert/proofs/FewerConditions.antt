@@ -1,7 +1,7 @@
 -- A unit under conditions is a unit under those of them on which that rests.
-use Rattle.std.specs.Prelude.{◌≡◌, ◌≢◌, ◌<◌, ℕ, ◌+◌, ◌⊎◌, Bool, true, false, pos, List, [], ◌∷◌, IsTrue, Contains, refl}
+use Rattle.std.specs.Prelude.{◌≡◌, ◌≢◌, ◌<◌, ℕ, ◌+◌, ◌⊎◌, Bool, true, false, pos, List, [], ◌∷◌, Contains, refl}
 use mathlib.Core.Logic.{inl, inr}
-use Rattle.std.proofs.Common.{arith, sym, ◌∙◌, ap, subst}
+use Rattle.std.proofs.Common.{arith, sym, ◌∙◌, subst}
 use Rattle.std.proofs.lemmas.Bool.{true≢false}
 use Rattle.std.specs.List.{AllByRecursion}
 use Rattle.std.specs.Ordering.{is_eq}
@@ -12,7 +12,7 @@ use Rattle.sparse_poly.specs.Polynomials.{row, constant, variable}
 use Rattle.sparse_poly.specs.Contributions.{IsPoly}
 use Rattle.sparse_poly.specs.Order.{poly_cmp}
 use Rattle.sparse_poly.specs.Units.{IsUnitTerm, IsStripped, IsOneOrMember}
-use Rattle.sparse_poly.specs.Clearing.{IsDividedBy, IsDivision, IsDividedOut, finished, passed, divided, IsDividedOutBy, by_first, by_later, after, IsCleared, IsStripUnit, IsClearUnit, IsUnit, leading_degree}
+use Rattle.sparse_poly.specs.Clearing.{IsDividedBy, IsDivision, IsDividedOut, finished, passed, divided, IsDividedOutBy, by_first, by_later, after, IsCleared, IsUnit, leading_degree}
 use Rattle.sparse_poly.proofs.Strips.{row_of_stripped}
 use Rattle.sparse_poly.proofs.OneQuotient.{division_lowers}
 use Rattle.derive_lines.specs.Known.{Holds}

@@ -1,5 +1,5 @@
 -- The cone of a refutation is one, and its pattern is within the decisions.
-use Rattle.std.specs.Prelude.{◌≡◌, ◌≢◌, ◌<◌, ℕ, zero, suc, ◌+◌, ◌-◌, ◌⊎◌, Bool, true, false, ℤ, pos, negsuc, List, [], ◌∷◌, length, take, slice_get, Contains, IsTrue, refl}
+use Rattle.std.specs.Prelude.{◌≡◌, ◌<◌, ℕ, zero, suc, ◌+◌, ◌-◌, ◌⊎◌, Bool, true, false, ℤ, pos, negsuc, List, [], ◌∷◌, length, take, slice_get, refl}
 use mathlib.Core.Logic.{inl, inr}
 use Rattle.std.proofs.Common.{arith, sym, ◌∙◌, ap, subst}
 use Rattle.std.proofs.lemmas.Bool.{true≢false}
@@ -18,11 +18,11 @@ use Rattle.derive_lines.specs.declared.parts.Item.{Item}
 use Rattle.derive_lines.specs.declared.parts.Item.TheVariants.{Root, Decision as of_decision, Line as of_line}
 use Rattle.derive_lines.specs.declared.parts.Way.{Way}
 use Rattle.derive_lines.specs.declared.parts.Way.TheVariants.{Fwd, Back}
-use Rattle.derive_lines.specs.Lines.{conditions, zero_poly, made_poly, item_poly, operand, IsThere, IsThereFor, StartsFromItem, Refers, reduced, rest, multiplier, multiplier_in, left_side, right_side, SidesAgree, IsGoodLine, AreGoodLines}
+use Rattle.derive_lines.specs.Lines.{conditions, zero_poly, made_poly, item_poly, operand, IsThere, IsThereFor, StartsFromItem, reduced, rest, multiplier, multiplier_in, SidesAgree, IsGoodLine}
 use Rattle.derive_lines.specs.Refuting.{IsNonzeroConstant, IsContradiction, Ends, Refutes}
 use Rattle.derive_lines.proofs.KnownSets.{same_test, contains-holds, holds-contains}
 use Rattle.refute_cert.specs.Parts.{RefutationParts}
-use Rattle.refute_cert.specs.Cone.{IsNeeded, RestsOn, on_variable, on_divisor, on_strip_rest, on_clear_rest, IsKeptFor, IsEndCondition, IsKeptCondition, IsKept, IsAmong, StandsAt, IsRenumbered, IsRenumberedOperand, IsRenumberedLine, HavePolyMultipliers, IsCone}
+use Rattle.refute_cert.specs.Cone.{IsKeptCondition, StandsAt, IsRenumbered, IsRenumberedOperand, IsRenumberedLine, HavePolyMultipliers, IsCone}
 use Rattle.refute_store.specs.Live.{IsWithin}
 use Rattle.refute_cert.specs.KeptPlaces.{ArePlaces}
 use Rattle.refute_cert.proofs.Endings.{zero_no_constant}
@@ -136,8 +136,8 @@ module _ (root : List (List Term)) (ds : List Decision) (ls : List Line) (end : 
       let n = s.so in
       let same : multiplier new ≡ multiplier s.old = same_multiplier c.decisions_kept c.lines_kept s.old new n in
       let unit : IsUnit (conditions r.pattern) (multiplier s.old) =
-          fewer_unit K (conditions ds) (conditions r.pattern) thin (multiplier s.old) (subst IsPoly same (polys i new e))
-          (λ q on. inl (s.place, record { line = s.old; is = s.is; needed = ((c.lines_are s.place).0 (i, s.kept)).1; rests = on })) g.unit in
+      fewer_unit K (conditions ds) (conditions r.pattern) thin (multiplier s.old) (subst IsPoly same (polys i new e))
+      (λ q on. inl (s.place, record { line = s.old; is = s.is; needed = ((c.lines_are s.place).0 (i, s.kept)).1; rests = on })) g.unit in
       record {
         from = g.from;
         by = g.by;

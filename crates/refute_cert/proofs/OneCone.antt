@@ -1,5 +1,5 @@
 -- There is one cone.
-use Rattle.std.specs.Prelude.{◌≡◌, ◌≤◌, ℕ, zero, suc, Bool, List, [], ◌∷◌, length, slice_get, refl}
+use Rattle.std.specs.Prelude.{◌≡◌, ◌≤◌, ℕ, zero, suc, List, [], ◌∷◌, length, slice_get, refl}
 use Rattle.std.proofs.Common.{arith, sym, ◌∙◌, ap, subst}
 use Rattle.std.proofs.lemmas.Option.{none-some, same_Some}
 use Rattle.std.specs.declared.option.Option.{Option}
@@ -9,7 +9,6 @@ use Rattle.derive_lines.specs.declared.parts.Decision.{Decision}
 use Rattle.derive_lines.specs.declared.parts.Line.{Line}
 use Rattle.derive_lines.specs.declared.parts.Item.{Item}
 use Rattle.derive_lines.specs.declared.parts.Item.TheVariants.{Root, Decision as of_decision, Line as of_line}
-use Rattle.derive_lines.specs.declared.parts.Way.{Way}
 use Rattle.refute_cert.specs.Parts.{RefutationParts}
 use Rattle.refute_cert.specs.Cone.{AscendFrom, IsAmong, StandsAt, IsRenumbered, IsRenumberedOperand, IsRenumberedLine, IsCone}
 use Rattle.refute_cert.proofs.Places.{place_from}

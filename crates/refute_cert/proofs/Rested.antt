@@ -1,16 +1,14 @@
 -- The conditions on which the multipliers of the lines before a place rest.
-use Rattle.std.specs.Prelude.{◌≡◌, ◌<◌, ◌≤◌, ℕ, suc, ◌+◌, ◌⊎◌, Bool, true, false, List, length, slice_get}
+use Rattle.std.specs.Prelude.{◌≡◌, ◌<◌, ◌≤◌, ℕ, ◌+◌, ◌⊎◌, Bool, true, List, length, slice_get}
 use mathlib.Core.Logic.{inl, inr}
 use Rattle.std.proofs.Common.{arith, sym, ◌∙◌, ap, subst}
 use Rattle.std.proofs.lemmas.Option.{same_Some, slice_get_within}
-use Rattle.std.proofs.lemmas.Bool.{true≢false}
-use Rattle.std.specs.declared.option.Option.TheVariants.{None, Some}
+use Rattle.std.specs.declared.option.Option.TheVariants.{Some}
 use Rattle.sparse_poly.specs.declared.Term.{Term}
 use Rattle.derive_lines.specs.declared.parts.Line.{Line}
 use Rattle.derive_lines.specs.Lines.{multiplier}
 use Rattle.derive_lines.specs.Known.{Holds}
 use Rattle.refute_cert.specs.Cone.{RestsOn}
-use Rattle.refute_cert.specs.Marks.{IsMarked}
 use Rattle.refute_cert.specs.Resting.{IsRestedOn, IsRestedBefore}
 
 cases : (j k : ℕ) → j < k + 1 → (j < k) ⊎ (j ≡ k)

@@ -93,11 +93,7 @@ fn copied_decision(decision: &Decision) -> Result<Decision, AllocError>
 }
 
 // A line with its items by new places.
-fn copied_line(
-    line: &Line,
-    of_decisions: &[usize],
-    of_lines: &[usize],
-) -> Result<Line, AllocError>
+fn copied_line(line: &Line, of_decisions: &[usize], of_lines: &[usize]) -> Result<Line, AllocError>
     requires decisions { AscendFrom 0 of_decisions.now }
     requires lines { AscendFrom 0 of_lines.now }
     requires from { HasPlaces of_decisions.now of_lines.now line.now.from }

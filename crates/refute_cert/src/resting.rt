@@ -79,11 +79,7 @@ fn is_divided_by(terms: &[Term], v: u32) -> bool
 }
 
 // Adds a polynomial that is a member and not 1.
-fn add_rest<'a>(
-    known: &mut Known<'a>,
-    units: &'a [Poly],
-    rest: &Poly,
-) -> Result<(), AllocError>
+fn add_rest<'a>(known: &mut Known<'a>, units: &'a [Poly], rest: &Poly) -> Result<(), AllocError>
     ensures { OnOk result ((n : List Term) → Holds units.now n → (Holds known.new n ↔ (Holds known.old n ⊎ ((n ≢ constant (pos 1)) × (rest.now ≡ n))))) }
 {
     if rest.is_one() {

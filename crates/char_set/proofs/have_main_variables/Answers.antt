@@ -1,8 +1,7 @@
 use Rattle.std.proofs.Common.{rules, arith, ◌≡◌, ◌<◌, length, take, refl, sym}
 use Rattle.std.specs.Prelude.{slice_get}
-use Rattle.std.specs.declared.option.Option.TheVariants.{None, Some}
+use Rattle.std.specs.declared.option.Option.TheVariants.{Some}
 use Rattle.std.proofs.lemmas.Option.{slice_get_read}
-use Rattle.sparse_poly.specs.Reads.{main_variable}
 use Rattle.char_set.specs.Triangular.{IsMainOf}
 use Rattle.char_set.proofs.Distinct.{DifferTo-more, not_apart, HaveMainVariables-all}
 use Rattle.char_set.proofs.have_main_variables.Goals as goal

@@ -1,4 +1,4 @@
-use Rattle.std.proofs.Common.{rules, ◌≡◌, ◌∙◌, ap}
+use Rattle.std.proofs.Common.{◌≡◌, ◌∙◌, ap}
 use Rattle.pseudo_rem.specs.Remainders.{rest_of}
 use Rattle.pseudo_rem.proofs.Scans.{nearer, one_more}
 use Rattle.pseudo_rem.proofs.remainders.remainder.Goals as goal

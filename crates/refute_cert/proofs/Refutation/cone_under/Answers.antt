@@ -1,5 +1,3 @@
-use Rattle.std.proofs.Common.{rules, sym, ◌∙◌, subst}
-use Rattle.refute_cert.specs.Cone.{IsCone}
 use Rattle.refute_cert.specs.KeptPlaces.{ArePlaces}
 use Rattle.refute_cert.proofs.KeptPlaces.{decisions_within, lines_within, all_have_places, end_has_place}
 use Rattle.refute_cert.proofs.GoodCones.{cone_made, cone_refutes, cone_within}

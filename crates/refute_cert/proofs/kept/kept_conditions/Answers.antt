@@ -1,4 +1,4 @@
-use Rattle.std.proofs.Common.{arith, rules, ◌≡◌, ◌∙◌, ap, true, false}
+use Rattle.std.proofs.Common.{arith, rules, ◌≡◌, ◌∙◌, ap, true}
 use Rattle.std.specs.declared.option.Option.TheVariants.{Some}
 use Rattle.refute_cert.specs.Resting.{IsVariedEnd}
 use Rattle.refute_cert.proofs.Rested.{rested_more, rested_all}

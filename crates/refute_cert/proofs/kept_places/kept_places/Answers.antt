@@ -1,4 +1,4 @@
-use Rattle.std.proofs.Common.{rules, sym, ◌∙◌, subst, length}
+use Rattle.std.proofs.Common.{sym}
 use Rattle.refute_cert.proofs.KeptPlaces.{refer_earlier, places_are}
 use Rattle.refute_cert.proofs.kept_places.kept_places.Goals as goal
 

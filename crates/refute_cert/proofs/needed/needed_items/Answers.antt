@@ -1,4 +1,4 @@
-use Rattle.std.proofs.Common.{arith, rules, sym, subst, ◌≡◌, ◌∙◌, ap, suc, ◌-◌, true, false}
+use Rattle.std.proofs.Common.{arith, rules, sym, subst, ◌≡◌, ◌∙◌, ap, suc, ◌-◌, true}
 use Rattle.std.specs.Prelude.{slice_get}
 use Rattle.std.specs.declared.option.Option.TheVariants.{Some}
 use Rattle.refute_cert.specs.Marks.{AreNeededFrom}
