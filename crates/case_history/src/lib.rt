@@ -4,5 +4,7 @@
 #![tactic(auto)]
 
 pub mod laws;
+mod within;
 
 pub use laws::{accepted_law, history_law, leaves_law, once_law, pattern_law};
+pub use within::is_within;
