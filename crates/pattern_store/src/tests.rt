@@ -21,18 +21,31 @@ fn refuted(alloc: Global, var: u32) -> Result<Refutation, CertStop> {
     Refutation::checked(alloc, &root, pattern, Vec::new(alloc), Item::Root(0))
 }
 
-#[test]
-fn patterns_within_decisions(rt: HostRuntime) -> Result<(), CertStop> {
-    let alloc = rt.alloc();
+// Two refutations, by the variables 0 and 1.
+fn posted(alloc: Global) -> Result<PatternStore, CertStop> {
     let mut store = PatternStore::new(alloc);
     for var in 0..2 {
-        let posted = store.post(alloc, refuted(alloc, var)?);
-        assert_eq!(rt; posted.ok(), Some(var as u64));
+        if store.post(alloc, refuted(alloc, var)?).is_err() {
+            return Err(CertStop::OutOfMemory);
+        }
     }
-    let decisions = vec![in alloc; decision(alloc, 0, true)?, decision(alloc, 1, false)?]?;
-    assert_eq!(rt; store.find(alloc, &decisions)?, Some(1));
-    assert_eq!(rt; store.find(alloc, &decisions[..1])?, None);
-    assert!(rt; store.is_live(0));
-    assert_eq!(rt; store.refutation(1).pattern().len(), 1);
+    Ok(store)
+}
+
+// What is found within the decisions that the first variables are not zero, but for the variable 0, which is.
+fn found(alloc: Global, store: &PatternStore, vars: u32) -> Result<Option<u64>, AllocError> {
+    let mut decisions = Vec::new(alloc);
+    for var in 0..vars {
+        decisions.push(decision(alloc, var, var == 0)?)?;
+    }
+    store.find(alloc, &decisions)
+}
+
+#[test]
+fn patterns_within_decisions(rt: HostRuntime) -> Result<(), CertStop> {
+    let store = posted(rt.alloc())?;
+    assert_eq!(rt; store.count(), 2);
+    assert_eq!(rt; found(rt.alloc(), &store, 1)?, None);
+    assert_eq!(rt; found(rt.alloc(), &store, 2)?, Some(1));
     Ok(())
 }
