@@ -1,0 +1,17 @@
+pub mod AddedEquations
+pub mod BackLines
+pub mod Belonging
+pub mod CanMoves
+pub mod Derivations
+pub mod EndsBelong
+pub mod FreeParts
+pub mod Holding
+pub mod Items
+pub mod MoreConditions
+pub mod Nonzero
+pub mod OneBranch
+pub mod OneEnd
+pub mod OneMove
+pub mod PrimitiveQuotients
+pub mod Regular
+pub mod Sides
