@@ -1,0 +1,6 @@
+mod Pairs
+mod Cases
+mod Grown
+mod PlainTree
+mod Serial
+mod Works
