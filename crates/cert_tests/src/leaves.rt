@@ -37,6 +37,25 @@ End | triangular | degree tail 1 x1*x0-1 1";
 
 /// In each paragraph what `checked` answers, and the parts with their own root.
 const TABLE: &str = "Equation { i: 1 }
+root x0^2-1
+root x1*x0-1
+root x2^2*x0-x0^2
+root x3*x2-1
+root x3^2*x0-x0^2
+nonzero x0
+nonzero x2
+fwd r2 - 1 0 x0 x2^2-x0
+fwd r4 - 1 0 x0 x3^2-x0
+fwd l1 r3 x2 x3 1 x3-x2*x0
+fwd r3 l2 1 x2 1 x2^2*x0-1
+fwd l3 l0 1 x0 1 x0^2-1
+eq x1*x0-1
+eq x0^2-1
+eq x2^2-x0
+eq x3-x2*x0
+triangular
+
+Equation { i: 1 }
 root x0
 root x1
 eq x1
