@@ -157,19 +157,22 @@ x0+170141183460469231731687303715884105727
 
 /// How many pentagons there are, and those that are not zero; the same for the next two.
 fn pentagons_of(alloc: Global, products: &[Triple]) -> Result<String, Fail> {
-    let (ring, symbols) = ring_of(alloc, products)?;
+    let ring = Ring::new(alloc, 2, products).ok().ok_or("a ring")?;
+    let symbols = Symbols::new(alloc, &ring).ok().ok_or("few unknowns")?;
     let polys = pentagons(alloc, &ring, &symbols)?;
     Ok(format!(in alloc; "{}\n{}", polys.len(), lines_of(alloc, &polys)?)?)
 }
 
 fn hexagons_of(alloc: Global, products: &[Triple]) -> Result<String, Fail> {
-    let (ring, symbols) = ring_of(alloc, products)?;
+    let ring = Ring::new(alloc, 2, products).ok().ok_or("a ring")?;
+    let symbols = Symbols::new(alloc, &ring).ok().ok_or("few unknowns")?;
     let polys = hexagons(alloc, &ring, &symbols)?;
     Ok(format!(in alloc; "{}\n{}", polys.len(), lines_of(alloc, &polys)?)?)
 }
 
 fn inverses_of(alloc: Global, products: &[Triple]) -> Result<String, Fail> {
-    let (ring, symbols) = ring_of(alloc, products)?;
+    let ring = Ring::new(alloc, 2, products).ok().ok_or("a ring")?;
+    let symbols = Symbols::new(alloc, &ring).ok().ok_or("few unknowns")?;
     let polys = inverses(alloc, &ring, &symbols)?;
     Ok(format!(in alloc; "{}\n{}", polys.len(), lines_of(alloc, &polys)?)?)
 }
