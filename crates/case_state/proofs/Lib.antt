@@ -1,0 +1,5 @@
+mod BeingCleared
+mod Branching
+mod Placing
+mod Rooting
+mod TailSteps

@@ -1,0 +1,98 @@
+//! Copies of the parts of a case.
+ghost use Rattle.std.specs.Prelude.{◌≡◌, IfOk};
+ghost use Rattle.case_rules.specs.Cases.{polys_of};
+
+use case_rules::Equation;
+use derive_lines::{Decision, Line};
+use sparse_poly::Poly;
+use std::alloc::{AllocError, Global};
+
+// An equal decision.
+fn copied_decision(decision: &Decision) -> Result<Decision, AllocError>
+    ensures { IfOk result (λ d. d ≡ decision.now) }
+{
+    Ok(Decision {
+        poly: decision.poly.copy()?,
+        zero: decision.zero,
+    })
+}
+
+// An equal line.
+fn copied_line(line: &Line) -> Result<Line, AllocError>
+    ensures { IfOk result (λ l. l ≡ line.now) }
+{
+    Ok(Line {
+        way: line.way,
+        from: line.from,
+        by: line.by,
+        l: line.l.copy()?,
+        a: line.a.copy()?,
+        m: line.m.copy()?,
+        made: line.made.copy()?,
+    })
+}
+
+// An equal equation.
+fn copied_equation(equation: &Equation) -> Result<Equation, AllocError>
+    ensures { IfOk result (λ e. e ≡ equation.now) }
+{
+    Ok(Equation {
+        poly: equation.poly.copy()?,
+        item: equation.item,
+    })
+}
+
+/// Equal decisions. It fails only where no memory is left.
+pub fn copied_decisions(alloc: Global, decisions: &[Decision]) -> Result<Vec<Decision>, AllocError>
+    ensures { IfOk result (λ v. v.items ≡ decisions.now) }
+{
+    let mut copies = Vec::with_capacity(alloc, decisions.len())?;
+    for decision in decisions {
+        copies.push(copied_decision(decision)?)?;
+    }
+    Ok(copies)
+}
+
+/// Equal lines. It fails only where no memory is left.
+pub fn copied_lines(alloc: Global, lines: &[Line]) -> Result<Vec<Line>, AllocError>
+    ensures { IfOk result (λ v. v.items ≡ lines.now) }
+{
+    let mut copies = Vec::with_capacity(alloc, lines.len())?;
+    for line in lines {
+        copies.push(copied_line(line)?)?;
+    }
+    Ok(copies)
+}
+
+/// Equal equations. It fails only where no memory is left.
+pub fn copied_equations(alloc: Global, equations: &[Equation]) -> Result<Vec<Equation>, AllocError>
+    ensures { IfOk result (λ v. v.items ≡ equations.now) }
+{
+    let mut copies = Vec::with_capacity(alloc, equations.len())?;
+    for equation in equations {
+        copies.push(copied_equation(equation)?)?;
+    }
+    Ok(copies)
+}
+
+/// Equal polynomials. It fails only where no memory is left.
+pub fn copied_polys(alloc: Global, polys: &[Poly]) -> Result<Vec<Poly>, AllocError>
+    ensures { IfOk result (λ v. v.items ≡ polys.now) }
+{
+    let mut copies = Vec::with_capacity(alloc, polys.len())?;
+    for poly in polys {
+        copies.push(poly.copy()?)?;
+    }
+    Ok(copies)
+}
+
+/// The polynomials of equations. It fails only where no memory is left.
+pub fn polys_of(alloc: Global, equations: &[Equation]) -> Result<Vec<Poly>, AllocError>
+    ensures { IfOk result (λ v. v.items ≡ polys_of equations.now) }
+{
+    let mut polys = Vec::with_capacity(alloc, equations.len())?;
+    for equation in equations {
+        polys.push(equation.poly.copy()?)?;
+    }
+    Ok(polys)
+}

@@ -1,0 +1,11 @@
+//! Cases of the search: decisions, equations, lines and moves, which are reduced and branched.
+#![tactic(auto)]
+
+mod case;
+mod clearing;
+mod copies;
+mod kept;
+mod shown;
+
+pub use case::Case;
+pub use shown::{Decisions, Equations, Lines};
