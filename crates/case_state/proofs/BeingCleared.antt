@@ -1,9 +1,9 @@
 -- Equations that are being cleared or stripped: what is left to do leads to what the whole leads to.
-use Rattle.std.specs.Prelude.{◌≡◌, ◌≢◌, ◌<◌, ℕ, ◌+◌, pos, List, [], ◌∷◌, ◌++◌, length, refl}
+use Rattle.std.specs.Prelude.{◌≡◌, ◌<◌, ℕ, ◌+◌, pos, List, [], ◌∷◌, ◌++◌, length}
 use Rattle.std.proofs.Common.{arith, sym, ◌∙◌, ap, subst, append_assoc, length-append, append-nil}
 use Rattle.sparse_poly.specs.declared.Term.{Term}
-use Rattle.sparse_poly.specs.Polynomials.{products, constant}
-use Rattle.sparse_poly.specs.Contributions.{IsPoly, IsResult}
+use Rattle.sparse_poly.specs.Polynomials.{constant}
+use Rattle.sparse_poly.specs.Contributions.{IsResult}
 use Rattle.sparse_poly.specs.Reads.{main_variable}
 use Rattle.sparse_poly.specs.Clearing.{DividesOpenly, IsDivision, leading_degree}
 use Rattle.sparse_poly.specs.Units.{IsStripped}

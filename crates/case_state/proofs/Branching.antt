@@ -1,11 +1,9 @@
 -- The branches of a case, by their parts.
-use Rattle.std.specs.Prelude.{◌≡◌, ℕ, ◌+◌, true, false, List, [], ◌∷◌, ◌++◌, length, remove, refl}
-use Rattle.std.proofs.Common.{arith, sym, ◌∙◌, ap, subst, append_assoc, length-append}
+use Rattle.std.specs.Prelude.{◌≡◌, ℕ, ◌+◌, true, false, List, [], ◌∷◌, ◌++◌, length, remove}
+use Rattle.std.proofs.Common.{sym, ◌∙◌, ap, subst, append_assoc, length-append}
 use Rattle.sparse_poly.specs.declared.Term.{Term}
 use Rattle.pseudo_rem.specs.declared.steps.Reduction.{Reduction}
 use Rattle.derive_lines.specs.declared.parts.Decision.{Decision}
-use Rattle.derive_lines.specs.declared.parts.Item.{Item}
-use Rattle.derive_lines.specs.declared.parts.Item.TheVariants as item
 use Rattle.derive_lines.specs.declared.parts.Line.{Line}
 use Rattle.derive_lines.specs.Lines.{conditions}
 use Rattle.derive_lines.specs.Refuting.{decided}
@@ -13,7 +11,7 @@ use Rattle.case_rules.specs.declared.equation.Equation.{Equation}
 use Rattle.case_rules.specs.Cases.{CaseState, known, equation}
 use Rattle.case_rules.specs.Kept.{added, all_added}
 use Rattle.case_rules.specs.Clearings.{made, IsClearing, AreCleared, AreStripped}
-use Rattle.case_rules.specs.Branches.{step_line, stepped, zero_equation, IsNonzeroBranch, IsTailOf, IsTailBranch}
+use Rattle.case_rules.specs.Branches.{step_line, zero_equation, IsNonzeroBranch, IsTailOf, IsTailBranch}
 use Rattle.case_state.specs.Appending.{IsClearedBy, AreClearedBy, AreStrippedBy}
 use Rattle.case_rules.proofs.Items.{conditions_zero, conditions_nonzero}
 

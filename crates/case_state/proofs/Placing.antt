@@ -1,6 +1,6 @@
 -- Where an equation is placed.
-use Rattle.std.specs.Prelude.{◌≡◌, ◌≢◌, ℕ, zero, suc, ◌+◌, ◌<◌, ◌≤◌, ◌↔◌, IsTrue, Bool, true, false, List, [], ◌∷◌, ◌++◌, length, insert, take, drop, slice_index_or, slice_set, refl}
-use Rattle.std.proofs.Common.{arith, subst, sym, ◌∙◌, ap, append_assoc, take-append-drop, drop-cons}
+use Rattle.std.specs.Prelude.{◌≡◌, ◌≢◌, ℕ, zero, suc, ◌+◌, ◌<◌, ◌≤◌, List, [], ◌∷◌, ◌++◌, length, insert, take, drop, slice_index_or, slice_set, refl}
+use Rattle.std.proofs.Common.{arith, sym, ◌∙◌, ap, append_assoc, drop-cons}
 use Rattle.std.proofs.Math.Numerals.{add-one}
 use Rattle.std.proofs.Math.Seq.{take-suc}
 use Rattle.std.specs.Cmp.{tied_itself}
@@ -11,8 +11,8 @@ use Rattle.sparse_poly.specs.Order.{poly_cmp}
 use Rattle.sparse_poly.specs.OrderLaws.{poly_cmp-IsAntisymmetric, poly_cmp-IsTotalOrder}
 use Rattle.derive_lines.specs.declared.parts.Item.{Item}
 use Rattle.case_rules.specs.declared.equation.Equation.{Equation}
-use Rattle.case_rules.specs.Cases.{equation_at, no_equation}
-use Rattle.case_rules.specs.Kept.{older, placed, by_place, added, added_if, all_added, item_if, item_of}
+use Rattle.case_rules.specs.Cases.{equation_at}
+use Rattle.case_rules.specs.Kept.{older, placed, by_place, added, added_if, item_if, item_of}
 use Rattle.case_state.specs.Places.{StandsAt, GoesTo}
 
 -- lists from a place on

@@ -1,6 +1,6 @@
 -- The root equations, one by one.
 use Rattle.std.specs.Prelude.{◌≡◌, ℕ, ◌+◌, ◌<◌, List, [], ◌∷◌, ◌++◌, length, take, slice_index_or, refl}
-use Rattle.std.proofs.Common.{arith, sym, ◌∙◌, ap, subst, append_assoc, length-append}
+use Rattle.std.proofs.Common.{arith, sym, ◌∙◌, ap}
 use Rattle.sparse_poly.specs.declared.Term.{Term}
 use Rattle.derive_lines.specs.declared.parts.Item.TheVariants as item
 use Rattle.case_rules.specs.declared.equation.Equation.{Equation}

@@ -1,7 +1,7 @@
 -- The tail step of a branch.
 use Rattle.std.specs.Prelude.{◌≡◌, ℕ, true, List, MatchResult}
 use Rattle.std.proofs.Common.{sym, ◌∙◌, ap, subst}
-use mathlib.Core.Logic.{inl, inr}
+use mathlib.Core.Logic.{inr}
 use Rattle.std.specs.declared.option.Option.TheVariants.{Some}
 use Rattle.std.specs.declared.result.Result.{Result}
 use Rattle.std.specs.declared.result.Result.TheVariants.{Ok, Err}

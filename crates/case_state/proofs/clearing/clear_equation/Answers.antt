@@ -1,4 +1,4 @@
-use Rattle.std.proofs.Common.{rules, arith, sym, ◌∙◌, ap, subst}
+use Rattle.std.proofs.Common.{rules, arith}
 use Rattle.case_state.proofs.Placing.{drop_this, drop_end}
 use Rattle.case_state.proofs.BeingCleared.{passed_at, divided_at, cleared_at_last}
 use Rattle.case_state.proofs.clearing.clear_equation.Goals as goal

@@ -1,4 +1,4 @@
-use Rattle.std.proofs.Common.{rules, ◌≡◌, refl, sym, ◌∙◌}
+use Rattle.std.proofs.Common.{rules, refl, sym, ◌∙◌}
 use Rattle.case_state.proofs.BeingCleared.{strip_same, strip_changed}
 use Rattle.case_state.proofs.clearing.strip_equation.Goals as goal
 

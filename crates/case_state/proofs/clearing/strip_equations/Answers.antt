@@ -1,4 +1,4 @@
-use Rattle.std.proofs.Common.{rules, arith, ◌≡◌, List, sym, subst, drop, ◌+◌}
+use Rattle.std.proofs.Common.{arith, List, sym, subst, drop, ◌+◌}
 use Rattle.case_rules.specs.declared.equation.Equation.{Equation}
 use Rattle.case_state.proofs.BeingCleared.{AreBeingStripped, stripped_next, strips_at_last}
 use Rattle.case_state.proofs.Placing.{drop_this, drop_end}

@@ -1,4 +1,4 @@
-use Rattle.std.proofs.Common.{rules, ◌≡◌, ◌+◌}
+use Rattle.std.proofs.Common.{rules, ◌+◌}
 use Rattle.case_state.proofs.Branching.{tail_made}
 use Rattle.case_state.proofs.case.Case.after_tail.Goals as goal
 
