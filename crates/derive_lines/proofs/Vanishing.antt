@@ -7,7 +7,7 @@ use Rattle.std.proofs.lemmas.Option.{none-some, same_Some, slice_get_within, get
 use Rattle.std.specs.declared.option.Option.{Option}
 use Rattle.std.specs.declared.option.Option.TheVariants.{None, Some}
 use Rattle.field_laws.specs.Field.{Field, IsField, IsElement, whole, AllElements}
-use Rattle.field_laws.proofs.FieldSteps.{whole_is, whole_apart, times-zero, plus_swap, minus-zero, other_zero}
+use Rattle.field_laws.proofs.FieldSteps.{whole_is, whole_apart, times-zero, sum_of_difference, minus-zero, other_zero}
 use Rattle.sparse_poly.specs.declared.Term.{Term}
 use Rattle.sparse_poly.specs.Polynomials.{eval, products, IsSum}
 use Rattle.sparse_poly.specs.Contributions.{contributions}
@@ -61,14 +61,10 @@ module _ {E : Type 0} (f : Field E) (l : IsField f) (s : List E) (p : AllElement
   values : (b q a c m r : List Term) → IsSum (contributions b q a c) (products m r) → plus (times (eval f s b) (eval f s q)) (minus (times (eval f s a) (eval f s c))) ≡ times (eval f s m) (eval f s r)
   values b q a c m r h = sym (combined_value f l s p b q a c (contributions b q a c) (λ k. refl)) ∙ eval-same f l s p (contributions b q a c) (products m r) h ∙ product_value f l s p m r (products m r) (λ k. refl)
 
-  -- from x - y = z to x = y + z
-  moved : (x y z : E) → IsElement f x → IsElement f y → plus x (minus y) ≡ z → x ≡ plus y z
-  moved x y z hx hy e = sym (l.plus-zero x hx) ∙ ap (plus x) (sym (l.plus-minus y hy)) ∙ plus_swap f l x y (minus y) hx hy (l.minus_is y hy) ∙ ap (plus y) e
-
   -- a line states l*q = a*p + m*r as values
   pub line_values : (b q a c m r : List Term) → IsSum (contributions b q a c) (products m r) → times (eval f s b) (eval f s q) ≡ plus (times (eval f s a) (eval f s c)) (times (eval f s m) (eval f s r))
   line_values b q a c m r h =
-      moved (times (eval f s b) (eval f s q)) (times (eval f s a) (eval f s c)) (times (eval f s m) (eval f s r))
+      sum_of_difference f l (times (eval f s b) (eval f s q)) (times (eval f s a) (eval f s c)) (times (eval f s m) (eval f s r))
       (l.times_is (eval f s b) (eval f s q) (eval_is f l s p b) (eval_is f l s p q)) (l.times_is (eval f s a) (eval f s c) (eval_is f l s p a) (eval_is f l s p c)) (values b q a c m r h)
 
   made_vanishes : (w : Way) (b a m made from by : List Term) → eval f s from ≡ f.zero → eval f s by ≡ f.zero → eval f s (multiplier_in w b m) ≢ f.zero → IsSum (contributions b (reduced w from made) a by) (products m (rest w from made)) → eval f s made ≡ f.zero

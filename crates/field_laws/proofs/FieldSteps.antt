@@ -85,6 +85,10 @@ module _ {E : Type 0} (f : Field E) (l : IsField f) where
   pub difference_of_same : (a b : E) → IsElement f a → a ≡ b → plus a (minus b) ≡ f.zero
   difference_of_same a b p e = ap (λ x. plus a (minus x)) (sym e) ∙ l.plus-minus a p
 
+  -- from a - b = c to a = b + c
+  pub sum_of_difference : (a b c : E) → IsElement f a → IsElement f b → plus a (minus b) ≡ c → a ≡ plus b c
+  sum_of_difference a b c p q e = sym (l.plus-zero a p) ∙ ap (plus a) (sym (l.plus-minus b q)) ∙ plus_swap a b (minus b) p q (l.minus_is b q) ∙ ap (plus b) e
+
   -- ---- finite sums
   pub total_is : (as' : List E) → AllElements f as' → IsElement f (total f as')
   total_is [] p = l.zero_is

@@ -2,4 +2,3 @@ mod Members
 mod Greatest
 mod Degrees
 mod PowerCoefficients
-mod ProductCoefficients

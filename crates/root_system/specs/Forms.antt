@@ -1,10 +1,10 @@
 -- The form of a root.
-use Rattle.std.specs.Prelude.{◌≢◌, ◌<◌, ◌≤◌, ℕ, List, [], length, All}
-use Rattle.std.specs.List.{AllByRecursion}
+use Rattle.std.specs.Prelude.{◌≢◌, ◌≤◌, ℕ, List, [], length, All}
 use Rattle.std.specs.List.Sorted.{IsStrictlySortedBy}
 use Rattle.sparse_poly.specs.declared.Term.{Term}
 use Rattle.sparse_poly.specs.Order.{poly_cmp}
 use Rattle.sparse_poly.specs.Primitive.{IsPrimitive}
+use Rattle.sparse_poly.specs.Reads.{HasVariablesBelow}
 use Rattle.symbol_index.specs.Symbols.{max_unknowns}
 
 -- a root: the number of unknowns and the equations
@@ -15,10 +15,6 @@ pub record RootEquations : Type 0 where
 -- the greatest number of root equations
 abbrev pub max_equations : ℕ
 max_equations = 65536
-
--- all variables of a polynomial are below n
-abbrev pub HasVariablesBelow : ℕ → List Term → Type 0
-HasVariablesBelow n p = AllByRecursion (λ (t : Term). AllByRecursion (λ (q : ℕ × ℕ). q.0 < n) t.monomial) p
 
 -- the equation is primitive and not zero, and its variables are unknowns
 pub record IsRootEquation (unknowns : ℕ) (q : List Term) : Type 0 where

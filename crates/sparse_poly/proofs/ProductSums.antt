@@ -2,7 +2,7 @@
 use Rattle.std.specs.Prelude.{◌≡◌, ◌≤◌, ℕ, zero, suc, ◌+◌, true, false, if◌then◌else◌, ℤ, pos, ◌+ℤ◌, ◌*ℤ◌, List, [], ◌∷◌, ◌++◌, length, refl}
 use Rattle.std.proofs.Common.{arith, sym, ◌∙◌, ap}
 use Rattle.std.proofs.lemmas.Int.{ints}
-use Rattle.std.proofs.Math.IntN.{*ℤ_comm, *ℤ-zero}
+use Rattle.std.proofs.Math.IntN.{*ℤ_comm, *ℤ-zero, *ℤ-one}
 use Rattle.std.specs.List.{AllByRecursion}
 use Rattle.std.specs.Ordering.{is_eq}
 use Rattle.field_laws.specs.Whole.{same_diff, is_diff, diffs, *ℤ-+ℤ}
@@ -23,6 +23,10 @@ use Rattle.sparse_poly.specs.OrderLaws.{same_term}
 
 zero_times : (a : ℤ) → pos 0 *ℤ a ≡ pos 0
 zero_times a = *ℤ_comm (pos 0) a ∙ *ℤ-zero a
+
+times_one : (a : ℤ) → a *ℤ pos 1 ≡ a
+unfolding lib.IntN.one
+times_one a = *ℤ-one a
 
 -- the sum of the coefficients, each times what f says of its monomial
 abbrev sum_with : (List (ℕ × ℕ) → ℤ) → List Term → ℤ
@@ -65,16 +69,31 @@ module _ (f : List (ℕ × ℕ) → ℤ) where
       ∙ ap (λ z. (coefficient us m *ℤ f m) +ℤ z) (same_within n (others m (t ∷ ts)) (others m us) small (others-same m (t ∷ ts) us e))
       ∙ sym (split m us)
 
--- the sum of the coefficients of those terms whose monomial times k is m
+sum_with-same : (f : List (ℕ × ℕ) → ℤ) (ts us : List Term) → IsSum ts us → sum_with f ts ≡ sum_with f us
+sum_with-same f ts us e = same_within f (length ts + length us) ts us (omega arith) e
+
+sum_with-each : (f g : List (ℕ × ℕ) → ℤ) (ts : List Term) → ((m : List (ℕ × ℕ)) → f m ≡ g m) → sum_with f ts ≡ sum_with g ts
+sum_with-each f g [] h = refl
+sum_with-each f g (t ∷ ts) h = ap (λ z. (t.coeff *ℤ z) +ℤ sum_with f ts) (h t.monomial) ∙ ap (λ z. (t.coeff *ℤ g t.monomial) +ℤ z) (sum_with-each f g ts h)
+
+-- 1 where k times n is m, and the sum of the coefficients of those terms whose monomial times k is m
+abbrev meets : List (ℕ × ℕ) → List (ℕ × ℕ) → List (ℕ × ℕ) → ℤ
+meets m k n = if is_eq (monomial_cmp m (monomial_times k n)) then pos 1 else pos 0
+
 abbrev matched : List Term → List (ℕ × ℕ) → List (ℕ × ℕ) → ℤ
-matched [] m k = pos 0
-matched (u ∷ us) m k = (if is_eq (monomial_cmp m (monomial_times k u.monomial)) then u.coeff else pos 0) +ℤ matched us m k
+matched us m k = sum_with (meets m k) us
 
 row_matched : (t : Term) (us : List Term) (m : List (ℕ × ℕ)) → coefficient (row t us) m ≡ t.coeff *ℤ matched us m t.monomial
 row_matched t [] m = sym (*ℤ-zero t.coeff)
-row_matched t (u ∷ us) m = elim (is_eq (monomial_cmp m (monomial_times t.monomial u.monomial))) as (λ b. (if b then t.coeff *ℤ u.coeff else pos 0) +ℤ coefficient (row t us) m ≡ t.coeff *ℤ ((if b then u.coeff else pos 0) +ℤ matched us m t.monomial)) [
-  | true ↦ ap (λ z. (t.coeff *ℤ u.coeff) +ℤ z) (row_matched t us m) ∙ sym (*ℤ-+ℤ t.coeff u.coeff (matched us m t.monomial))
-  | false ↦ zero_plus _ ∙ row_matched t us m ∙ ap (λ z. t.coeff *ℤ z) (sym (zero_plus (matched us m t.monomial)))
+row_matched t (u ∷ us) m = elim (is_eq (monomial_cmp m (monomial_times t.monomial u.monomial))) as (λ b. (if b then t.coeff *ℤ u.coeff else pos 0) +ℤ coefficient (row t us) m ≡ t.coeff *ℤ ((u.coeff *ℤ (if b then pos 1 else pos 0)) +ℤ matched us m t.monomial)) [
+  | true ↦
+      ap (λ z. (t.coeff *ℤ u.coeff) +ℤ z) (row_matched t us m)
+      ∙ sym (*ℤ-+ℤ t.coeff u.coeff (matched us m t.monomial))
+      ∙ ap (λ z. t.coeff *ℤ (z +ℤ matched us m t.monomial)) (sym (times_one u.coeff))
+  | false ↦
+      zero_plus _ ∙ row_matched t us m
+      ∙ ap (λ z. t.coeff *ℤ z) (sym (zero_plus (matched us m t.monomial)))
+      ∙ ap (λ z. t.coeff *ℤ (z +ℤ matched us m t.monomial)) (sym (*ℤ-zero u.coeff))
 ]
 
 products_matched : (ts us : List Term) (m : List (ℕ × ℕ)) → coefficient (products ts us) m ≡ sum_with (matched us m) ts
@@ -82,10 +101,16 @@ products_matched [] us m = refl
 products_matched (t ∷ ts) us m =
     coefficient-append m (row t us) (products ts us) ∙ ap (λ z. z +ℤ coefficient (products ts us) m) (row_matched t us m) ∙ ap (λ z. (t.coeff *ℤ matched us m t.monomial) +ℤ z) (products_matched ts us m)
 
--- products of lists with the same coefficients by one list
+-- products of lists with the same coefficients
+pub products-same : (ts ts' us us' : List Term) → IsSum ts ts' → IsSum us us' → IsSum (products ts us) (products ts' us')
+products-same ts ts' us us' e f m =
+    products_matched ts us m
+    ∙ sum_with-same (matched us m) ts ts' e
+    ∙ sum_with-each (matched us m) (matched us' m) ts' (λ k. sum_with-same (meets m k) us us' f)
+    ∙ sym (products_matched ts' us' m)
+
 pub same_products : (ts us vs : List Term) → IsSum ts us → IsSum (products ts vs) (products us vs)
-same_products ts us vs e m =
-    products_matched ts vs m ∙ same_within (matched vs m) (length ts + length us) ts us (omega arith) e ∙ sym (products_matched us vs m)
+same_products ts us vs e = products-same ts us vs vs e (λ m. refl)
 
 abbrev pub ArePowers : List Term → Type 0
 ArePowers ts = AllByRecursion (λ (t : Term). IsPowers t.monomial) ts

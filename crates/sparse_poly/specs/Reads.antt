@@ -1,5 +1,6 @@
 -- What is read from a polynomial: its degree in a variable, its greatest variable, and its coefficient of a power of a variable.
-use Rattle.std.specs.Prelude.{◌≢◌, ℕ, max, if◌then◌else◌, ◌==◌, List, [], ◌∷◌, All, AllPairs}
+use Rattle.std.specs.Prelude.{◌≢◌, ◌<◌, ℕ, max, if◌then◌else◌, ◌==◌, List, [], ◌∷◌, All, AllPairs}
+use Rattle.std.specs.List.{AllByRecursion}
 use Rattle.std.specs.declared.option.Option.{Option}
 use Rattle.std.specs.declared.option.Option.TheVariants.{None}
 use Rattle.monomial.specs.Monomials.{exponent, top, without}
@@ -15,6 +16,10 @@ degree_in v (t ∷ ts) = max (exponent t.monomial v) (degree_in v ts)
 abbrev pub main_variable : List Term → Option ℕ
 main_variable [] = None
 main_variable (t ∷ ts) = higher (top t.monomial) (main_variable ts)
+
+-- all variables of a polynomial are below n
+abbrev pub HasVariablesBelow : ℕ → List Term → Type 0
+HasVariablesBelow n p = AllByRecursion (λ (t : Term). AllByRecursion (λ (q : ℕ × ℕ). q.0 < n) t.monomial) p
 
 -- the coefficient of v^k: the terms in which v has the exponent k, without v
 abbrev pub coefficient_of_power : ℕ → ℕ → List Term → List Term

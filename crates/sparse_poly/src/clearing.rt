@@ -92,8 +92,8 @@ fn divided_once(
     }
 }
 
-// Whether a polynomial is primitive, not constant, and divided by no variable.
-fn is_in_form(n: &Poly) -> bool
+/// Whether a polynomial is in form: primitive, not constant, and divided by no variable.
+pub fn is_in_form(n: &Poly) -> bool
     ensures { IsTrue result ↔ IsInForm n.now }
 {
     let terms = n.terms();

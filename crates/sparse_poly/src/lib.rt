@@ -30,6 +30,7 @@ mod squeezing;
 mod stripping;
 mod weighing;
 
+pub use clearing::is_in_form;
 use dividing::{ends_divide, quotient_by};
 use falling::is_polynomial;
 pub use laws::{

@@ -1,4 +1,4 @@
-use Rattle.poly_laws.proofs.ProductCoefficients.{products-same}
+use Rattle.sparse_poly.proofs.ProductSums.{products-same}
 use Rattle.poly_laws.proofs.product_coefficients_law.Goals as goal
 
 pub returns : goal.returns
