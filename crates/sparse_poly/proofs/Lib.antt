@@ -24,6 +24,7 @@ pub mod OneQuotient
 pub mod Divisions
 pub mod LongDivision
 pub mod Trailing
+pub mod Degrees
 pub mod InForm
 pub mod UnitOne
 pub mod ProductSums
