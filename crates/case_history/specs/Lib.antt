@@ -1,3 +1,4 @@
 pub mod History
 pub mod Replay
 pub mod JustOne
+pub mod Counts

@@ -2,12 +2,9 @@
 ghost use Rattle.std.specs.Prelude.{◌≡◌, MatchResult};
 ghost use Rattle.leaf_cert.specs.Leaves.{IsLeaf, IsLeafStop};
 
-use crate::ending::end_checks;
+use crate::checking::check_leaf;
 use crate::ends::LeafEnd;
-use crate::equations::first_bad_equation;
-use derive_lines::{
-    Decision, Item, Line, LineCause, LineStop, check_back, check_lines, conditions,
-};
+use derive_lines::{Decision, Item, Line, LineCause};
 use sparse_poly::Poly;
 use std::alloc::{AllocError, AllocFailed, Global};
 use std::marker::Model;
@@ -78,25 +75,7 @@ impl Leaf {
     ) -> Result<Leaf, LeafStop>
         ensures { MatchResult result (IsLeaf root.now decisions.items lines.items equations.items end) (IsLeafStop root.now decisions.items lines.items equations.items end) }
     {
-        match check_lines(alloc, root, &decisions, &lines) {
-            Ok(()) => {}
-            Err(LineStop::BadLine { k, cause }) => return Err(LeafStop::Line { k, cause }),
-            Err(LineStop::Lost { .. }) => unreachable!(),
-            Err(LineStop::OutOfMemory) => return Err(LeafStop::OutOfMemory),
-        }
-        if let Some(i) = first_bad_equation(alloc, root, &decisions, &lines, &equations)? {
-            return Err(LeafStop::Equation { i: i as u64 });
-        }
-        match check_back(alloc, root, &decisions, &lines, &equations) {
-            Ok(()) => {}
-            Err(LineStop::BadLine { .. }) => unreachable!(),
-            Err(LineStop::Lost { item }) => return Err(LeafStop::Lost { item }),
-            Err(LineStop::OutOfMemory) => return Err(LeafStop::OutOfMemory),
-        }
-        let units = conditions(alloc, &decisions)?;
-        if !end_checks(alloc, &equations, &units, &end)? {
-            return Err(LeafStop::End);
-        }
+        check_leaf(alloc, root, &decisions, &lines, &equations, &end)?;
         Ok(Leaf {
             decisions,
             lines,

@@ -2,6 +2,7 @@
 #![tactic(auto)]
 
 mod certificate;
+mod checking;
 mod ending;
 mod ends;
 mod equations;
@@ -10,6 +11,7 @@ mod leaf;
 mod rows;
 
 pub use certificate::{Certificate, RawEntry};
+pub use checking::check_leaf;
 pub use ends::{LeafEnd, OpenCause, StepKind, Stop};
 pub use laws::{leaf_answer_law, leaf_law};
 pub use leaf::{Leaf, LeafStop};

@@ -8,6 +8,7 @@ ghost use Rattle.refute_cert.specs.Refutations.{IsRefutation, IsCertStop};
 ghost use Rattle.refute_store.specs.Live.{IsWithin};
 ghost use Rattle.refute_cert.specs.Cone.{IsCone};
 
+mod checking;
 mod copies;
 mod ending;
 mod kept;
@@ -17,9 +18,9 @@ mod marks;
 mod needed;
 mod resting;
 
+pub use checking::check_refutation;
 use copies::{copied_decisions, copied_lines, renumbered};
-use derive_lines::{Decision, Item, Line, LineCause, LineStop, check_lines, conditions};
-use ending::ends;
+use derive_lines::{Decision, Item, Line, LineCause, conditions};
 use kept_places::kept_places;
 pub use laws::{cert_answer_law, cone_law, good_cone_law};
 use sparse_poly::Poly;
@@ -87,15 +88,7 @@ impl Refutation {
     ) -> Result<Refutation, CertStop>
         ensures { MatchResult result (IsRefutation root.now pattern.items lines.items end) (IsCertStop root.now pattern.items lines.items end) }
     {
-        match check_lines(alloc, root, &pattern, &lines) {
-            Ok(()) => {}
-            Err(LineStop::BadLine { k, cause }) => return Err(CertStop::Line { k, cause }),
-            Err(LineStop::Lost { .. }) => unreachable!(),
-            Err(LineStop::OutOfMemory) => return Err(CertStop::OutOfMemory),
-        }
-        if !ends(root, &pattern, &lines, end) {
-            return Err(CertStop::End);
-        }
+        check_refutation(alloc, root, &pattern, &lines, end)?;
         Ok(Refutation {
             pattern,
             lines,
