@@ -1,0 +1,11 @@
+mod Contributions
+mod Factors
+mod ReadParts
+mod Strips
+mod Steps
+mod Clearings
+mod Cases
+mod DueMoves
+mod Cones
+mod Ends
+mod Histories
