@@ -66,7 +66,7 @@ pub one_spelling : (u : ℕ) (text : List ℕ) (p q : List Term) → IsSpelling 
 one_spelling u text p q h k = one_poly p q h.poly k.poly (sym h.spelled ∙ k.spelled)
 
 module _ (u : ℕ) (text : List ℕ) (small : u ≤ 2 ^ 32) where
-  spelling_live : (p : List Term) → IsSpelling u text p → IsLive u Start text
+  pub spelling_live : (p : List Term) → IsSpelling u text p → IsLive u Start text
   spelling_live p h = subst (IsLive u Start) (sym h.spelled) (written u p small (spelling_in_range u text p h))
 
   -- the terms of an order fault are those of the text

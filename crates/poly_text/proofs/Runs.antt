@@ -1,9 +1,10 @@
 -- Going over a text by the grammar.
 use Rattle.std.specs.Prelude.{◌≡◌, ◌≢◌, ℕ, ◌+◌, ◌<◌, true, false, List, [], ◌∷◌, ◌++◌, length, take, drop, get_or, refl, codes}
 use Rattle.std.proofs.Common.{sym, ◌∙◌, ap, inl, inr, arith, add-one}
+use Rattle.std.specs.List.{AllByRecursion}
 use Rattle.std.proofs.lemmas.List.{take-append-drop}
 use Rattle.std.proofs.Math.Seq.{take-suc, take-length}
-use Rattle.poly_text.specs.Form.{run, next, ends, IsForm, IsSyntaxFault}
+use Rattle.poly_text.specs.Form.{run, next, ends, IsForm, IsPlainByte, IsSyntaxFault}
 use Rattle.poly_text.specs.State.{State, Start, Signed, Zero, One, Coefficient, Times, Letter, VariableZero, Variable, Caret, FactorEnd, Exponent, Wrong}
 
 pub run-append : (s : State) (xs ys : List ℕ) → run s (xs ++ ys) ≡ run (run s xs) ys
@@ -77,3 +78,42 @@ fault_end text s e live n = record {
   begins = rw (take-length text) (begins_as text s e live);
   stops = inl refl;
 }
+
+-- no text of the form goes on with a line feed
+line_feed : (s : State) → next s 10 ≡ Wrong
+line_feed Start = refl
+line_feed Signed = refl
+line_feed Zero = refl
+line_feed One = refl
+line_feed Coefficient = refl
+line_feed Times = refl
+line_feed Letter = refl
+line_feed VariableZero = refl
+line_feed Variable = refl
+line_feed Caret = refl
+line_feed FactorEnd = refl
+line_feed Exponent = refl
+line_feed Wrong = refl
+
+-- or with a space
+space : (s : State) → next s 32 ≡ Wrong
+space Start = refl
+space Signed = refl
+space Zero = refl
+space One = refl
+space Coefficient = refl
+space Times = refl
+space Letter = refl
+space VariableZero = refl
+space Variable = refl
+space Caret = refl
+space FactorEnd = refl
+space Exponent = refl
+space Wrong = refl
+
+not_before : (s : State) (c : ℕ) (cs : List ℕ) → ends (run s (c ∷ cs)) ≡ true → next s c ≡ Wrong → ⊥
+not_before s c cs h e = let g : false ≡ true = sym (ap ends (ap (λ t. run t cs) e ∙ run-wrong cs)) ∙ h in absurd (cc)
+
+pub plain_bytes : (s : State) (text : List ℕ) → ends (run s text) ≡ true → AllByRecursion IsPlainByte text
+plain_bytes s [] h = tt
+plain_bytes s (c ∷ cs) h = ((λ e. not_before s c cs h (ap (next s) e ∙ line_feed s), λ e. not_before s c cs h (ap (next s) e ∙ space s)), plain_bytes (next s c) cs h)

@@ -1,5 +1,5 @@
 -- The form of a polynomial's text, as a grammar that goes byte by byte: numbers of any size, terms and factors in any order.
-use Rattle.std.specs.Prelude.{◌≡◌, ℕ, ◌+◌, ◌≤◌, Bool, true, false, ◌&&◌, ◌==◌, nat_le, ◌⊎◌, if◌then◌else◌, List, [], ◌∷◌, ◌++◌, length, take}
+use Rattle.std.specs.Prelude.{◌≡◌, ◌≢◌, ℕ, ◌+◌, ◌≤◌, Bool, true, false, ◌&&◌, ◌==◌, nat_le, ◌⊎◌, if◌then◌else◌, List, [], ◌∷◌, ◌++◌, length, take}
 use Rattle.poly_text.specs.State.{State, Start, Signed, Zero, One, Coefficient, Times, Letter, VariableZero, Variable, Caret, FactorEnd, Exponent, Wrong}
 
 abbrev pub is_digit : ℕ → Bool
@@ -60,6 +60,10 @@ run s (c ∷ cs) = run (next s c) cs
 -- the text has the form
 abbrev pub IsForm : List ℕ → Type 0
 IsForm text = ends (run Start text) ≡ true
+
+-- the byte is no line feed and no space
+abbrev pub IsPlainByte : ℕ → Type 0
+IsPlainByte c = (c ≢ 10) × (c ≢ 32)
 
 -- the text has not the form, and `at` is the least place such that no text of the form begins with its first at + 1 bytes, or the length where the text only ended early
 pub record IsSyntaxFault (text : List ℕ) (at : ℕ) : Type 0 where

@@ -16,6 +16,6 @@ mod raw;
 mod reader;
 mod writer;
 
-pub use laws::{answer_law, text_law};
+pub use laws::{answer_law, spelling_law, text_law};
 pub use reader::{PolyTextFault, read_poly};
 pub use writer::write_poly;
