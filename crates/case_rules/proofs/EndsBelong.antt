@@ -89,7 +89,7 @@ module _ (root : List (List Term)) where
       record { decisions_are = decisions_of c s way tail d r; belongs = branch_belongs c s way tail d can.0 can.1 r b; within = omega (arith, n, l) }
 
   -- the least equation that is a contradiction refutes
-  dead_refutes : (c : CaseState) (i : ℕ) → Belongs root c → IsDeadAt c i → Refutes root c.decisions c.lines (equation c i).item
+  pub dead_refutes : (c : CaseState) (i : ℕ) → Belongs root c → IsDeadAt c i → Refutes root c.decisions c.lines (equation c i).item
   dead_refutes c i b d = record { lines = b.lines; ends = record { poly = poly c i; is = b.items i d.place; contradiction = d.contradiction } }
 
   contains_place : (ns : List (List Term)) (k : ℕ) → k < length ns → Contains ns (slice_index_or ns k [])
@@ -106,7 +106,7 @@ module _ (root : List (List Term)) where
     pub refutes : Refutes root c.decisions (c.lines ++ back_lines c (length c.lines) (condition c k) ss) (item.Line last)
     pub multipliers : HavePolyMultipliers (c.lines ++ back_lines c (length c.lines) (condition c k) ss)
 
-  refuted_by : (c : CaseState) (k last : ℕ) (ss : List Step) → Belongs root c → IsSettled c → k < length (known c) → HasZeroRemainder c (condition c k) ss → last + 1 ≡ length c.lines + length ss → condition c k ≢ [] → IsRefutedBy c ss k last
+  pub refuted_by : (c : CaseState) (k last : ℕ) (ss : List Step) → Belongs root c → IsSettled c → k < length (known c) → HasZeroRemainder c (condition c k) ss → last + 1 ≡ length c.lines + length ss → condition c k ≢ [] → IsRefutedBy c ss k last
   refuted_by c k last ss b settled l h e some =
       let back : LeadBack root c b settled (condition c k) ss = lead_back root c b settled (condition c k) ss h.each h.zero in
       record {
@@ -123,7 +123,7 @@ module _ (root : List (List Term)) where
       by (s ∷ ss) back (inr g) z = cc g
 
   -- a known condition is not zero
-  condition_some : (c : CaseState) (k : ℕ) → Belongs root c → k < length (known c) → condition c k ≢ []
+  pub condition_some : (c : CaseState) (k : ℕ) → Belongs root c → k < length (known c) → condition c k ≢ []
   condition_some c k b l z = by (b.conditions k [] l)
     where
       by : IsCondition (condition c k) → ⊥
@@ -136,7 +136,7 @@ module _ (root : List (List Term)) where
   above_at p (e ∷ es) zero l h = h.0
   above_at p (e ∷ es) (suc j) l h = above_at p es j (omega (arith, l)) h.1
 
-  below_at : (es : List Equation) (i j : ℕ) → Ascend es → i < j → j < length es → poly_cmp (equation_at es i).poly (equation_at es j).poly ≡ Less
+  pub below_at : (es : List Equation) (i j : ℕ) → Ascend es → i < j → j < length es → poly_cmp (equation_at es i).poly (equation_at es j).poly ≡ Less
   unfolding IsStrictlySortedBy
   below_at [] i j a k l = absurd (omega (arith, l))
   below_at (e ∷ es) zero zero a k l = absurd (omega (arith, k))
@@ -159,7 +159,7 @@ module _ (root : List (List Term)) where
   contains_equation c i l = stands_contains (poly c i) c.equations (stands_at c.equations i l)
 
   -- a leaf with this end is good, where the end checks
-  good_leaf : (c : CaseState) (end : LeafEnd) → Belongs root c → EndChecks (polys c) (known c) end → GoodLeaf root (leaf_of c end)
+  pub good_leaf : (c : CaseState) (end : LeafEnd) → Belongs root c → EndChecks (polys c) (known c) end → GoodLeaf root (leaf_of c end)
   good_leaf c end b h = record {
     lines = b.lines;
     equations = record {
@@ -172,7 +172,7 @@ module _ (root : List (List Term)) where
     end = h;
   }
 
-  triangular_checks : (c : CaseState) → Belongs root c → IsAlive c → IsSettled c → IsTriangular (polys c) (known c)
+  pub triangular_checks : (c : CaseState) → Belongs root c → IsAlive c → IsSettled c → IsTriangular (polys c) (known c)
   triangular_checks c b a s = record {
     main = settled_variables c (regular root c b) a s;
     decided = λ i d l.
@@ -185,12 +185,12 @@ module _ (root : List (List Term)) where
   stopped_checks c cs stop (cause.Coefficient s) f h = subst (λ (s : Stop). IsStoppedStep (polys c) (known c) s.step s.v s.q s.p IsTooHeavy) (sym h.0) (f IsTooHeavy h.1)
   stopped_checks c cs stop (cause.Degree s) f h = subst (λ (s : Stop). IsStoppedStep (polys c) (known c) s.step s.v s.q s.p IsTooHigh) (sym h.0) (f IsTooHigh h.1)
 
-  reduction_checks : (c : CaseState) (q p v : ℕ) (why : OpenCause) → Belongs root c → CanReduce c q p v → IsReductionStopped c q p v why → EndChecks (polys c) (known c) (leaf_end.Open why)
+  pub reduction_checks : (c : CaseState) (q p v : ℕ) (why : OpenCause) → Belongs root c → CanReduce c q p v → IsReductionStopped c q p v why → EndChecks (polys c) (known c) (leaf_end.Open why)
   reduction_checks c q p v why b can h =
       stopped_checks c (step_contributions v (poly c q) (poly c p)) (record { step = kind.Reduce; v = v; q = poly c q; p = poly c p }) why
       (λ P x. record { reducible = record { reduced = contains_equation c q can.q_place; by = contains_equation c p can.p_place; apart = differ c q p b can.q_place can.p_place can.apart; can = can.can }; stopped = x }) h
 
-  tail_checks : (c : CaseState) (s : List Term) (i : ℕ) (why : OpenCause) → i < count c → IsTailStopped c s i why → EndChecks (polys c) (known c) (leaf_end.Open why)
+  pub tail_checks : (c : CaseState) (s : List Term) (i : ℕ) (why : OpenCause) → i < count c → IsTailStopped c s i why → EndChecks (polys c) (known c) (leaf_end.Open why)
   tail_checks c s i why l h =
       stopped_checks c (tail_contributions h.v (poly c i) h.u s) (record { step = kind.Tail; v = h.v; q = poly c i; p = s }) why
       (λ P x. record { reduced = contains_equation c i l; factor = h.u; tail = record { main = h.initial.main; divided = inr h.initial.cleared }; stopped = x }) h.stopped

@@ -4,7 +4,7 @@ ghost use Rattle.std.specs.Prelude.{◌≡◌, ◌<◌, IfOk, length, slice_get}
 ghost use Rattle.std.specs.declared.option.Option.TheVariants.{Some};
 ghost use Rattle.case_rules.specs.Cases.{equation_at, polys_of};
 
-use crate::copies::polys_of;
+use crate::copies::{copied_decisions, copied_lines, polys_of};
 use case_rules::Equation;
 use derive_lines::{Decision, Item, Line};
 use sparse_poly::Poly;
@@ -64,6 +64,13 @@ impl<'a> Decisions<'a> {
         self.list.len() as u64
     }
 
+    /// Copies of all of them, the oldest first. It fails only where no memory is left.
+    pub fn copies(&self, alloc: Global) -> Result<Vec<Decision>, AllocError>
+        ensures { IfOk result (λ v. v.items ≡ self.now) }
+    {
+        copied_decisions(alloc, self.list)
+    }
+
     /// All of them, the oldest first.
     pub fn as_slice(&self) -> &'a [Decision]
         ensures { result.now ≡ self.now }
@@ -118,6 +125,13 @@ impl<'a> Lines<'a> {
         ensures { result ≡ length self.now }
     {
         self.list.len() as u64
+    }
+
+    /// Copies of all of them, the oldest first. It fails only where no memory is left.
+    pub fn copies(&self, alloc: Global) -> Result<Vec<Line>, AllocError>
+        ensures { IfOk result (λ v. v.items ≡ self.now) }
+    {
+        copied_lines(alloc, self.list)
     }
 
     /// All of them, the oldest first.
