@@ -31,11 +31,9 @@ division_from n p h d = record {
 pub division_to : (n p e h : List Term) → IsDivision [] n (constant (pos 1)) p e h → Divides n p h
 division_to n p e h i = record { nonzero = i.nonzero; in_form = i.in_form; quotient = i.quotient }
 
-pub division_smaller : (n f p e h : List Term) → IsDivision [] n f p e h → leading_degree h < leading_degree p
-division_smaller n f p e h i = division_lowers [] n f p e h i
-
-pub no_division : (n p : List Term) → ((e h : List Term) → IsDivision [] n (constant (pos 1)) p e h → ⊥) → (h : List Term) → Divides n p h → ⊥
-no_division n p none h d = none n h (division_from n p h d)
+-- a quotient has a lower leading degree
+pub quotient_smaller : (n p h : List Term) → Divides n p h → leading_degree h < leading_degree p
+quotient_smaller n p h d = division_lowers [] n (constant (pos 1)) p n h (division_from n p h d)
 
 pub no_quotient : (n p : List Term) → ((g : List Term) → DividesOpenly n p g → ⊥) → (h : List Term) → Divides n p h → ⊥
 no_quotient n p none h d = none h d.quotient

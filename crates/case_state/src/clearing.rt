@@ -7,7 +7,7 @@ ghost use Rattle.case_state.specs.Appending.{Grows, IsClearedBy, AreClearedBy, I
 
 use case_rules::Equation;
 use derive_lines::{Item, Line, Way, is_same};
-use sparse_poly::{Poly, Stripped};
+use sparse_poly::{Poly, is_in_form};
 use std::alloc::{AllocError, Global};
 use std::collections::VecDeque;
 
@@ -27,24 +27,21 @@ fn quotient_line(alloc: Global, from: Item, m: Poly, made: Poly) -> Result<Line,
 }
 
 // The quotient of a polynomial by a condition in form that divides it. Whether the condition is in form is asked only where there is a quotient.
-fn divided(alloc: Global, p: &Poly, n: &Poly) -> Result<Option<Poly>, AllocError>
+#[tactic(auto, using(crate::proofs::BeingCleared::quotient_smaller))]
+fn divided(p: &Poly, n: &Poly) -> Result<Option<Poly>, AllocError>
     ensures answer { IfOk result (λ o. MatchOption o ((h : List Term) → Divides n.now p.now h → ⊥) (λ h. Divides n.now p.now h)) }
     ensures smaller { IfOk result (λ o. IfSome o (λ h. leading_degree h < leading_degree p.now)) }
 {
-    if n.is_zero() {
+    if p.is_zero() || n.is_zero() {
         return Ok(None);
     }
-    let Some(_) = p.quotient(n)? else {
+    let Some(quotient) = p.quotient(n)? else {
         return Ok(None);
     };
-    let whole = Stripped {
-        factor: Poly::constant(alloc, 1)?,
-        rest: p.copy()?,
-    };
-    match whole.divided_by(&[], n)? {
-        Some(division) => Ok(Some(division.rest)),
-        None => Ok(None),
+    if !is_in_form(n) {
+        return Ok(None);
     }
+    Ok(Some(quotient))
 }
 
 /// Clears an equation of known conditions, and appends the lines for it. Where no memory is left some of them may have been appended.
@@ -60,7 +57,7 @@ pub fn clear_equation(
     let mut now = equation;
     'conditions: for n in known {
         'once: loop {
-            let Some(h) = divided(alloc, &now.poly, n)? else {
+            let Some(h) = divided(&now.poly, n)? else {
                 break;
             };
             let item = Item::Line(lines.len() as u64);

@@ -19,7 +19,8 @@ use Rattle.case_rules.specs.Clearings.{made, IsClearing}
 use Rattle.case_rules.specs.Branches.{step_line, stepped, zero_equation, IsReduced, IsClearedInitial, IsZeroBranch, IsTailBranch, IsNonzeroBranch, IsBranch}
 use Rattle.case_rules.proofs.AddedEquations.{every_added, every_all_added, every_removed}
 use Rattle.case_rules.proofs.Regular.{every_at, no_terms}
-use Rattle.legal_ranges.specs.Variables.{HasVariablesBelow, HasDecisionVariablesBelow, HasLineVariablesBelow}
+use Rattle.sparse_poly.specs.Reads.{HasVariablesBelow}
+use Rattle.leaf_cert.specs.Variables.{HasDecisionVariablesBelow, HasLineVariablesBelow}
 use Rattle.legal_ranges.proofs.ReadParts.{main_below}
 use Rattle.legal_ranges.proofs.Strips.{IsPolyBelow, ArePolysBelow}
 use Rattle.legal_ranges.proofs.Steps.{IsStepBelow, reduction_below, tail_below, initial_below}

@@ -8,7 +8,7 @@ use Rattle.derive_lines.specs.declared.parts.Line.{Line}
 use Rattle.case_rules.specs.declared.equation.Equation.{Equation}
 use Rattle.case_rules.specs.Clearings as clearings
 use Rattle.case_rules.specs.Clearings.{quotient_line, made, IsClearing, AreCleared, AreStripped}
-use Rattle.legal_ranges.specs.Variables.{HasLineVariablesBelow}
+use Rattle.leaf_cert.specs.Variables.{HasLineVariablesBelow}
 use Rattle.legal_ranges.proofs.Contributions.{constant_below}
 use Rattle.legal_ranges.proofs.Strips.{IsPolyBelow, ArePolysBelow, stripped_below, quotient_below}
 

@@ -10,7 +10,8 @@ use Rattle.derive_lines.specs.declared.parts.Item.{Item}
 use Rattle.derive_lines.specs.declared.parts.Line.{Line}
 use Rattle.refute_cert.specs.Parts.{RefutationParts}
 use Rattle.refute_cert.specs.Cone.{StandsAt, IsRenumberedLine, IsCone}
-use Rattle.legal_ranges.specs.Variables.{HasVariablesBelow, HasDecisionVariablesBelow, HasLineVariablesBelow, HaveDerivationVariablesBelow}
+use Rattle.sparse_poly.specs.Reads.{HasVariablesBelow}
+use Rattle.leaf_cert.specs.Variables.{HasDecisionVariablesBelow, HasLineVariablesBelow, HaveDerivationVariablesBelow}
 use Rattle.legal_ranges.proofs.Cases.{AreDecisionsBelow}
 use Rattle.legal_ranges.proofs.Clearings.{AreLinesBelow}
 

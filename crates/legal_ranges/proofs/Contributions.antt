@@ -13,7 +13,7 @@ use Rattle.sparse_poly.specs.Contributions.{contributions, IsPoly, IsFalling}
 use Rattle.sparse_poly.proofs.Descending.{all_both}
 use Rattle.sparse_poly.proofs.Evaluation.{is_of-same, zero_plus}
 use Rattle.sparse_poly.proofs.Same.{coefficient_above, coefficient_leading}
-use Rattle.legal_ranges.specs.Variables.{HasVariablesBelow}
+use Rattle.sparse_poly.specs.Reads.{HasVariablesBelow}
 
 module _ (n : ℕ) where
   -- the variables of a monomial are below n, and those of a term

@@ -16,7 +16,7 @@ use Rattle.case_rules.proofs.Belonging.{regular}
 use Rattle.case_rules.proofs.CanMoves.{can_move, leading_poly}
 use Rattle.case_rules.proofs.Nonzero.{leading_nonzero, rest_nonzero}
 use Rattle.case_rules.proofs.Regular.{IsSound, within_at}
-use Rattle.legal_ranges.specs.Variables.{HasVariablesBelow}
+use Rattle.sparse_poly.specs.Reads.{HasVariablesBelow}
 use Rattle.legal_ranges.proofs.ReadParts.{main_below, divisor_below}
 use Rattle.legal_ranges.proofs.Strips.{IsPolyBelow}
 use Rattle.legal_ranges.proofs.Cases.{IsCaseBelow, poly_at, initial_at}

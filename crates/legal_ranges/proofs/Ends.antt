@@ -31,7 +31,8 @@ use Rattle.case_rules.specs.Ends.{End, leaf_of, last_line, back_lines, IsStopped
 use Rattle.case_rules.specs.Belonging.{Belongs}
 use Rattle.case_rules.proofs.Belonging.{reduced_belongs}
 use Rattle.case_rules.proofs.CanMoves.{can_move}
-use Rattle.legal_ranges.specs.Variables.{HasVariablesBelow, HasDecisionVariablesBelow, HasLineVariablesBelow, HasStopVariablesBelow, HasCauseVariablesBelow, HasEndVariablesBelow, HaveDerivationVariablesBelow, HaveLeafVariablesBelow}
+use Rattle.sparse_poly.specs.Reads.{HasVariablesBelow}
+use Rattle.leaf_cert.specs.Variables.{HasDecisionVariablesBelow, HasLineVariablesBelow, HasStopVariablesBelow, HasCauseVariablesBelow, HasEndVariablesBelow, HaveDerivationVariablesBelow, HaveLeafVariablesBelow}
 use Rattle.legal_ranges.proofs.ReadParts.{main_below}
 use Rattle.legal_ranges.proofs.Steps.{IsStepBelow, reduction_below}
 use Rattle.legal_ranges.proofs.Clearings.{AreLinesBelow, AreEquationsBelow}

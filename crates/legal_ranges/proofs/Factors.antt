@@ -15,7 +15,7 @@ use Rattle.sparse_poly.specs.Standing.{AllMonomials}
 use Rattle.sparse_poly.proofs.OneQuotient.{AllUnder, nonzero_product, tail_under}
 use Rattle.sparse_poly.proofs.Same.{coefficient_leading, same_polynomial}
 use Rattle.case_rules.proofs.Regular.{no_terms}
-use Rattle.legal_ranges.specs.Variables.{HasVariablesBelow}
+use Rattle.sparse_poly.specs.Reads.{HasVariablesBelow}
 use Rattle.legal_ranges.proofs.Contributions.{Below, from_contribution}
 
 no_products : (ts : List Term) (m : List (ℕ × ℕ)) → coefficient (products ts []) m ≡ pos 0

@@ -13,7 +13,8 @@ use Rattle.case_rules.specs.Belonging.{Belongs, IsRootList}
 use Rattle.case_rules.specs.Ends.{End}
 use Rattle.case_rules.specs.declared.outcome.Outcome.TheVariants.{Split, Dead, Leaf as leaf_end}
 use Rattle.legal_history.specs.Legal.{AreCases, IsCase, IsEndOf, closes, refutes, splits, publishes, stays, goes, IsLegal}
-use Rattle.legal_ranges.specs.Variables.{HasVariablesBelow, HasEntryVariablesBelow}
+use Rattle.sparse_poly.specs.Reads.{HasVariablesBelow}
+use Rattle.leaf_cert.specs.Variables.{HasEntryVariablesBelow}
 use Rattle.legal_ranges.proofs.Clearings.{AreEquationsBelow}
 use Rattle.legal_ranges.proofs.Cases.{IsCaseBelow}
 use Rattle.legal_ranges.proofs.Cones.{each_at}

@@ -13,7 +13,7 @@ use Rattle.sparse_poly.specs.Contributions.{higher}
 use Rattle.sparse_poly.specs.Reads.{degree_in, main_variable, coefficient_of_power, leading_in}
 use Rattle.sparse_poly.specs.Clearing.{IsDividedBy}
 use Rattle.pseudo_rem.specs.Steps.{raised, times_power}
-use Rattle.legal_ranges.specs.Variables.{HasVariablesBelow}
+use Rattle.sparse_poly.specs.Reads.{HasVariablesBelow}
 use Rattle.legal_ranges.proofs.Contributions.{Below, times_below}
 
 module _ (n : ℕ) where

@@ -8,7 +8,7 @@ use Rattle.sparse_poly.specs.Clearing.{IsCleared}
 use Rattle.sparse_poly.proofs.Powers.{IsPoly-coefficient_of_power}
 use Rattle.pseudo_rem.specs.declared.steps.Reduction.{Reduction}
 use Rattle.pseudo_rem.specs.Steps.{IsStep, IsReduction, IsTailStep}
-use Rattle.legal_ranges.specs.Variables.{HasVariablesBelow}
+use Rattle.sparse_poly.specs.Reads.{HasVariablesBelow}
 use Rattle.legal_ranges.proofs.Contributions.{constant_below, contributions_below, sum_below}
 use Rattle.legal_ranges.proofs.ReadParts.{leading_below, power_below}
 use Rattle.legal_ranges.proofs.Strips.{IsPolyBelow, ArePolysBelow, stripped_below, cleared_below}

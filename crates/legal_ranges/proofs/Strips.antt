@@ -8,7 +8,7 @@ use Rattle.sparse_poly.specs.Units.{IsStripped}
 use Rattle.sparse_poly.specs.Clearing.{DividesOpenly, IsDividedOut, finished, passed, divided, IsCleared}
 use Rattle.sparse_poly.proofs.Strips.{no_row, row_of_stripped}
 use Rattle.case_rules.proofs.Regular.{no_terms}
-use Rattle.legal_ranges.specs.Variables.{HasVariablesBelow}
+use Rattle.sparse_poly.specs.Reads.{HasVariablesBelow}
 use Rattle.legal_ranges.proofs.Contributions.{constant_below, products_below, sum_below}
 use Rattle.legal_ranges.proofs.Factors.{product_below}
 

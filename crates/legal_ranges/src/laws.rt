@@ -2,7 +2,8 @@
 ghost use Rattle.std.specs.Prelude.{All};
 ghost use Rattle.case_rules.specs.Belonging.{IsRootList};
 ghost use Rattle.legal_history.specs.Legal.{IsLegal};
-ghost use Rattle.legal_ranges.specs.Variables.{HasVariablesBelow, HasEntryVariablesBelow};
+ghost use Rattle.sparse_poly.specs.Reads.{HasVariablesBelow};
+ghost use Rattle.leaf_cert.specs.Variables.{HasEntryVariablesBelow};
 
 use legal_history::case_law;
 

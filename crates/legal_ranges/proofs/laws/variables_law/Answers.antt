@@ -1,5 +1,5 @@
 use Rattle.std.proofs.lemmas.List.Elements.{All-from_recursion}
-use Rattle.legal_ranges.specs.Variables.{HasEntryVariablesBelow}
+use Rattle.leaf_cert.specs.Variables.{HasEntryVariablesBelow}
 use Rattle.legal_ranges.proofs.Histories.{entries_below}
 use Rattle.legal_ranges.proofs.laws.variables_law.Goals as goal
 

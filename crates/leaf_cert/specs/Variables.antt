@@ -1,7 +1,7 @@
 -- Entries of a history all of whose variables are below n.
 use Rattle.std.specs.Prelude.{ℕ, ◌<◌, List, All}
-use Rattle.std.specs.List.{AllByRecursion}
 use Rattle.sparse_poly.specs.declared.Term.{Term}
+use Rattle.sparse_poly.specs.Reads.{HasVariablesBelow}
 use Rattle.derive_lines.specs.declared.parts.Decision.{Decision}
 use Rattle.derive_lines.specs.declared.parts.Line.{Line}
 use Rattle.leaf_cert.specs.declared.ends.Stop.{Stop}
@@ -11,10 +11,6 @@ use Rattle.leaf_cert.specs.declared.ends.LeafEnd.{LeafEnd}
 use Rattle.leaf_cert.specs.declared.ends.LeafEnd.TheVariants.{Triangular, Open}
 use Rattle.leaf_cert.specs.declared.certificate.RawEntry.{RawEntry}
 use Rattle.leaf_cert.specs.declared.certificate.RawEntry.TheVariants.{Split, Post, Close, Publish}
-
--- all variables of a polynomial are below n
-abbrev pub HasVariablesBelow : ℕ → List Term → Type 0
-HasVariablesBelow n p = AllByRecursion (λ (t : Term). AllByRecursion (λ (q : ℕ × ℕ). q.0 < n) t.monomial) p
 
 -- all variables of the polynomial of a decision are below n
 abbrev pub HasDecisionVariablesBelow : ℕ → Decision → Type 0
