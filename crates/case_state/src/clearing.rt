@@ -7,7 +7,7 @@ ghost use Rattle.case_state.specs.Appending.{Grows, IsClearedBy, AreClearedBy, I
 
 use case_rules::Equation;
 use derive_lines::{Item, Line, Way, is_same};
-use sparse_poly::{Poly, is_in_form};
+use sparse_poly::{Poly, Stripped, is_in_form};
 use std::alloc::{AllocError, Global};
 use std::collections::VecDeque;
 
