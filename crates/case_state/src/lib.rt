@@ -8,4 +8,5 @@ mod kept;
 mod shown;
 
 pub use case::Case;
+pub use copies::{copied_decisions, copied_lines, copied_polys};
 pub use shown::{Decisions, Equations, Lines};

@@ -1,0 +1,14 @@
+//! The board of a search: the cases that are pending, the patterns of refutations, and the history of what was settled, which is legal.
+#![tactic(auto)]
+
+mod answers;
+mod board;
+mod copies;
+mod entries;
+pub mod laws;
+mod nodes;
+mod rooting;
+
+pub use answers::{Look, Reply, Unsettled};
+pub use board::Board;
+pub use laws::settle_law;
