@@ -1,0 +1,4 @@
+pub mod Refusals
+pub mod Apart
+pub mod Certified
+pub mod Told

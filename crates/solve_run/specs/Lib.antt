@@ -1,4 +1,6 @@
 pub mod Lines
 pub mod Words
-pub mod CertificateText
+pub mod Streams
+pub mod Statuses
 pub mod Outcomes
+pub mod Completeness

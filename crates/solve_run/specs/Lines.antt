@@ -7,9 +7,9 @@ use Rattle.ring_file.specs.declared.Place.TheVariants.{Top, Labels, Products, Pr
 use Rattle.ring_file.specs.declared.ProblemFault.{ProblemFault}
 use Rattle.ring_file.specs.declared.ProblemFault.TheVariants.{NotJson, Shape, Ring, GaugeNumber, GaugeSymbol}
 use Rattle.solve_run.specs.declared.status.Status.{Status}
-use Rattle.solve_run.specs.declared.status.Status.TheVariants.{Open, Usage, ReadFault, TooLong, Problem, TooManyUnknowns, TooManyEquations, WriteFault, OutOfMemory}
+use Rattle.solve_run.specs.declared.status.Status.TheVariants.{Done, Open, Usage, ReadFault, TooLong, Problem, TooManyUnknowns, TooManyEquations, WriteFault, OutOfMemory}
 use Rattle.solve_run.specs.declared.status.UsageKind.{UsageKind}
-use Rattle.solve_run.specs.declared.status.UsageKind.TheVariants.{Words}
+use Rattle.solve_run.specs.declared.status.UsageKind.TheVariants.{Words, Budget}
 
 abbrev pub two : ℕ → ℕ → List ℕ
 two a b = decimal a ++ (codes " " ++ decimal b)
@@ -47,8 +47,10 @@ problem_text _ = codes "out of memory"
 
 abbrev pub usage_text : UsageKind → List ℕ
 usage_text Words = codes "usage words"
+usage_text Budget = codes "usage budget"
 
 abbrev pub status_text : Status → List ℕ
+status_text (Done leaves) = codes "done leaves " ++ decimal leaves
 status_text (Open leaves opens) = codes "open leaves " ++ (decimal leaves ++ (codes " open " ++ decimal opens))
 status_text (Usage kind) = usage_text kind
 status_text ReadFault = codes "read fault"
@@ -60,6 +62,7 @@ status_text WriteFault = codes "write fault"
 status_text OutOfMemory = codes "out of memory"
 
 abbrev pub exit_of : Status → ℕ
+exit_of (Done leaves) = 0
 exit_of (Open leaves opens) = 1
 exit_of (Usage kind) = 2
 exit_of ReadFault = 3

@@ -1,104 +1,96 @@
--- What each outcome of a run says of the bytes that were read and written.
-use Rattle.std.specs.Prelude.{◌≡◌, ◌≢◌, ℕ, ◌≤◌, ◌↔◌, List, Option, length, All}
-use Rattle.std.specs.Io.KnownBytes.{Consumes, IsAtEnd, Appends}
+-- How a run ends: by the first of its stages that refuses (the words, the source, the problem, the root, the search, the writing), or with a certificate.
+use Rattle.std.specs.Prelude.{◌≡◌, ◌≢◌, ◌<◌, ℕ, List}
+use Rattle.std.specs.Io.KnownBytes.{Appends}
 use Rattle.field_laws.specs.Field.{Field, AllElements}
-use Rattle.braid_io.specs.Causes.{WrotePart}
-use Rattle.sparse_poly.specs.declared.Term.{Term}
-use Rattle.sparse_poly.specs.Polynomials.{eval}
+use Rattle.braid_io.specs.Causes.{Rose, TookMore, TookUpTo, WrotePart}
+use Rattle.leaf_cert.specs.Leaves.{Meets}
+use Rattle.leaf_cert.specs.declared.certificate.Certificate.{Certificate}
+use Rattle.leaf_cert.specs.declared.certificate.RawEntry.{RawEntry}
 use Rattle.ring_file.specs.Problems.{Stated}
 use Rattle.ring_file.specs.Reading.{IsProblemOf, IsProblemFault}
+use Rattle.ring_file.specs.declared.problem.ProblemFault.{ProblemFault}
 use Rattle.ring_file.specs.declared.problem.ProblemFault.TheVariants.{OutOfMemory as no_problem_memory}
 use Rattle.root_system.specs.Forms.{RootEquations, max_equations}
 use Rattle.root_system.specs.Root.{IsRootOf, IsRootFault}
 use Rattle.root_system.specs.Solution.{Solution}
 use Rattle.root_system.specs.declared.root.RootFault.TheVariants.{TooManyUnknowns as too_many_unknowns, TooManyEquations as too_many_equations}
-use Rattle.solve_run.specs.CertificateText.{open_leaf_text}
+use Rattle.case_history.specs.History.{IsComplete}
+use Rattle.case_history.specs.Replay.{Accepted}
+use Rattle.case_history.specs.JustOne.{MeetsJustOneLeaf}
+use Rattle.case_history.specs.Counts.{leaf_count, open_count}
+use Rattle.legal_history.specs.Legal.{IsSerial}
+use Rattle.legal_history.specs.Tree.{AreTreeLeaves}
+use Rattle.case_ledger.specs.Board.{IsCertificate}
+use Rattle.cert_text.specs.Sentences.{certificate_text}
+use Rattle.solve_run.specs.Words.{IsBudgetOf, IsUsageFault}
+use Rattle.solve_run.specs.Streams.{Stream, ReadsAll, max_problem_bytes}
 use Rattle.solve_run.specs.declared.status.Status.{Status}
-use Rattle.solve_run.specs.declared.status.Status.TheVariants.{Open, Usage, ReadFault, TooLong, Problem, TooManyUnknowns, TooManyEquations, WriteFault, OutOfMemory}
+use Rattle.solve_run.specs.declared.status.Status.TheVariants.{Done, Open, Usage, ReadFault, TooLong, Problem, TooManyUnknowns, TooManyEquations, WriteFault, OutOfMemory}
+use Rattle.solve_run.specs.declared.status.UsageKind.{UsageKind}
 
--- how many bytes a problem may have
-abbrev pub max_problem_bytes : ℕ
-max_problem_bytes = 1048576
-
--- these bytes were taken from the source, and they were all
-pub record ReadsAll (before after : Option (List ℕ)) (bytes : List ℕ) : Type 0 where
-  pub taken : Consumes before after bytes
-  pub ended : IsAtEnd after
-  pub short : length bytes ≤ max_problem_bytes
-
--- the text is that of the certificate of the problem that the bytes state, whose one open leaf is its root
-pub record IsCertificateOf (bytes text : List ℕ) : Type 0 where
-  pub problem : Stated
-  pub root : RootEquations
+-- all bytes of the source were read, they state the problem, and it has this root
+pub record StatesRoot (source : Stream) (bytes : List ℕ) (problem : Stated) (root : RootEquations) : Type 0 where
+  pub reads : ReadsAll source bytes
   pub is_problem : IsProblemOf bytes problem
   pub is_root : IsRootOf problem max_equations root
-  pub is_text : text ≡ open_leaf_text root.unknowns root.equations
 
--- why the bytes have no certificate: they state no problem, or one with too many unknowns or equations
-abbrev pub IsRefusal : List ℕ → Status → Type 0
-IsRefusal bytes (Open leaves opens) = ⊥
-IsRefusal bytes (Usage kind) = ⊥
-IsRefusal bytes ReadFault = ⊥
-IsRefusal bytes TooLong = ⊥
-IsRefusal bytes (Problem fault) = IsProblemFault bytes fault × (fault ≢ no_problem_memory)
-IsRefusal bytes (TooManyUnknowns count) = (p : Stated) × IsProblemOf bytes p × IsRootFault p max_equations (too_many_unknowns count)
-IsRefusal bytes (TooManyEquations count) = (p : Stated) × IsProblemOf bytes p × IsRootFault p max_equations (too_many_equations count)
-IsRefusal bytes WriteFault = ⊥
-IsRefusal bytes OutOfMemory = Unit {0}
+-- Why a source gives no root.
+pub data Refuses (source : Stream) : Status → Type 0 where
+  -- a read failed, before more bytes came than a problem may have
+  reads_fault : Rose source.faults_before source.faults_after → TookUpTo source.before source.after max_problem_bytes → Refuses source ReadFault
+  -- more bytes came
+  reads_more : TookMore source.before source.after max_problem_bytes → Refuses source TooLong
+  -- all bytes were read, and they state no problem
+  states_none : (bytes : List ℕ) (fault : ProblemFault) → ReadsAll source bytes → IsProblemFault bytes fault → fault ≢ no_problem_memory → Refuses source (Problem fault)
+  -- they state a problem with too many unknowns
+  has_unknowns : (bytes : List ℕ) (p : Stated) (count : ℕ) → ReadsAll source bytes → IsProblemOf bytes p → IsRootFault p max_equations (too_many_unknowns count) → Refuses source (TooManyUnknowns count)
+  -- or with too many equations
+  has_equations : (bytes : List ℕ) (p : Stated) (count : ℕ) → ReadsAll source bytes → IsProblemOf bytes p → IsRootFault p max_equations (too_many_equations count) → Refuses source (TooManyEquations count)
+  -- memory could not be had
+  lacks_memory : Refuses source OutOfMemory
 
--- all bytes were read, and this is why they have no certificate
-pub record Refuses (before after : Option (List ℕ)) (status : Status) : Type 0 where
+-- the certificate of the whole search of a root, in which the least pending case was always settled next
+pub record IsSearched (root : RootEquations) (budget : ℕ) (history : List RawEntry) (certificate : Certificate) : Type 0 where
+  pub has_parts : IsCertificate (record { root = root; budget = budget; history = history }) certificate
+  pub serial : IsSerial root.equations budget history
+  pub complete : IsComplete history
+  pub accepted : Accepted root.unknowns root.equations certificate
+  pub tree : AreTreeLeaves root.equations budget history
+
+-- What a run with a certificate says in the field: of the bytes that it read, their problem and root, the history of the search and its certificate,
+-- with so many leaves, of which so many are open.
+pub record Certifies {E : Type 0} (f : Field E) (words : List (List ℕ)) (source : Stream) (IsWritten : List ℕ → Type 0) (leaves opens : ℕ) : Type 0 where
   pub bytes : List ℕ
-  pub reads : ReadsAll before after bytes
-  pub refusal : IsRefusal bytes status
-
--- the assignment meets the leaf: all its equations are zero there
-abbrev pub MeetsLeaf : {E : Type 0} → Field E → List E → List (List Term) → Type 0
-MeetsLeaf f x equations = All (λ q. eval f x q ≡ f.zero) equations
-
--- all bytes were read, exactly the text of their certificate was written, and an assignment is a solution of their problem exactly if it meets the one leaf
-pub record Covers {E : Type 0} (f : Field E) (left_before left_after written_before written_after : Option (List ℕ)) : Type 0 where
-  pub bytes : List ℕ
-  pub reads : ReadsAll left_before left_after bytes
   pub problem : Stated
-  pub is_problem : IsProblemOf bytes problem
   pub root : RootEquations
-  pub is_root : IsRootOf problem max_equations root
-  pub writes : Appends written_before written_after (open_leaf_text root.unknowns root.equations)
-  pub covers : (x : List E) → AllElements f x → Solution f problem x ↔ MeetsLeaf f x root.equations
+  pub budget : ℕ
+  pub history : List RawEntry
+  pub certificate : Certificate
+  pub is_budget : IsBudgetOf words budget
+  pub states : StatesRoot source bytes problem root
+  pub searched : IsSearched root budget history certificate
+  pub leaves_are : leaves ≡ leaf_count certificate.entries
+  pub opens_are : opens ≡ open_count certificate.entries
+  pub writes : IsWritten (certificate_text certificate)
+  -- an assignment is a solution of the problem exactly if it meets a leaf, and then it meets just one
+  pub covers : (x : List E) → AllElements f x → MeetsJustOneLeaf (Solution f problem x) (Meets f x) certificate.entries
 
--- all bytes were read, and of the text of their certificate a proper prefix was written: not all of it
-pub record WritesPrefix (left_before left_after written_before written_after : Option (List ℕ)) : Type 0 where
-  pub bytes : List ℕ
-  pub reads : ReadsAll left_before left_after bytes
-  pub text : List ℕ
-  pub certificate : IsCertificateOf bytes text
-  pub writes : WrotePart written_before written_after text
+-- The status of a run that wrote all of these entries.
+pub data Counts (entries : List RawEntry) : Status → Type 0 where
+  -- no leaf is open
+  none_open : open_count entries ≡ 0 → Counts entries (Done (leaf_count entries))
+  -- some leaf is open
+  some_open : 0 < open_count entries → Counts entries (Open (leaf_count entries) (open_count entries))
 
--- some bytes were taken from the front of the source
-abbrev pub TakesSome : Option (List ℕ) → Option (List ℕ) → Type 0
-TakesSome before after = (bytes : List ℕ) × Consumes before after bytes
-
--- the run wrote, or tried to
-abbrev pub HasWritten : Status → Type 0
-HasWritten (Open leaves opens) = Unit {0}
-HasWritten (Usage kind) = ⊥
-HasWritten ReadFault = ⊥
-HasWritten TooLong = ⊥
-HasWritten (Problem fault) = ⊥
-HasWritten (TooManyUnknowns count) = ⊥
-HasWritten (TooManyEquations count) = ⊥
-HasWritten WriteFault = Unit {0}
-HasWritten OutOfMemory = ⊥
-
--- the answer is told by the bytes alone, or is want of memory
-abbrev pub IsToldByBytes : Status → Type 0
-IsToldByBytes (Open leaves opens) = Unit {0}
-IsToldByBytes (Usage kind) = ⊥
-IsToldByBytes ReadFault = ⊥
-IsToldByBytes TooLong = Unit {0}
-IsToldByBytes (Problem fault) = Unit {0}
-IsToldByBytes (TooManyUnknowns count) = Unit {0}
-IsToldByBytes (TooManyEquations count) = Unit {0}
-IsToldByBytes WriteFault = ⊥
-IsToldByBytes OutOfMemory = Unit {0}
+-- How a run ends.
+pub data Ends {E : Type 0} (f : Field E) (words : List (List ℕ)) (source sink : Stream) : Status → Type 0 where
+  -- the words give no budget
+  by_words : (kind : UsageKind) → IsUsageFault words kind → Ends f words source sink (Usage kind)
+  -- they give one, and the source gives no root, or memory could not be had
+  by_source : (budget : ℕ) (status : Status) → IsBudgetOf words budget → Refuses source status → Ends f words source sink status
+  -- the whole text was written, and no leaf is open
+  by_leaves : (leaves : ℕ) → Certifies f words source (Appends sink.before sink.after) leaves 0 → Ends f words source sink (Done leaves)
+  -- the whole text was written, and some leaf is open
+  by_open_leaves : (leaves opens : ℕ) → 0 < opens → Certifies f words source (Appends sink.before sink.after) leaves opens → Ends f words source sink (Open leaves opens)
+  -- a write failed, and a proper prefix of the text was written
+  by_sink : (leaves opens : ℕ) → Rose sink.faults_before sink.faults_after → Certifies f words source (WrotePart sink.before sink.after) leaves opens → Ends f words source sink WriteFault

@@ -3,21 +3,27 @@
 ghost use Rattle.std.specs.Prelude.{◌≡◌, string_bytes, IfOk};
 ghost use Rattle.solve_run.specs.Lines.{status_text, problem_text, place_text, ring_text, exit_of};
 
+use braid_io::ReadStop;
 use fusion_ring::RingFault;
 use ring_file::{Place, ProblemFault};
+use root_system::RootFault;
 use std::alloc::{AllocError, Global};
 
 /// What is wrong with the words of a run.
 #[derive(Clone, Copy, Debug, PartialEq)]
 pub enum UsageKind {
-    /// The words are not `--budget` and `0`.
+    /// There are words, and they are not `--budget` and one value.
     Words,
+    /// The value of `--budget` is no number from 0 to 1,000,000 in decimal digits without leading zeros.
+    Budget,
 }
 
 /// How a run ended.
 #[derive(Clone, Copy, Debug, PartialEq)]
 pub enum Status {
-    /// The whole text was written; of the `leaves` published leaves `opens` are open, at least one.
+    /// The whole text was written, and none of its `leaves` leaves is open.
+    Done { leaves: u64 },
+    /// The whole text was written, and of its `leaves` leaves `opens` are open, at least one.
     Open { leaves: u64, opens: u64 },
     /// The words were refused, and nothing was read.
     Usage(UsageKind),
@@ -37,13 +43,59 @@ pub enum Status {
     OutOfMemory,
 }
 
+impl From<ReadStop> for Status {
+    ghost use Rattle.std.specs.Prelude.{◌≡◌};
+    ghost use Rattle.solve_run.specs.Statuses.{read_status};
+
+    ghost from_gives = { λ stop status. status ≡ read_status stop };
+
+    fn from(stop: ReadStop) -> Status {
+        match stop {
+            ReadStop::Fault => Status::ReadFault,
+            ReadStop::TooLong => Status::TooLong,
+            ReadStop::OutOfMemory => Status::OutOfMemory,
+        }
+    }
+}
+
+impl From<ProblemFault> for Status {
+    ghost use Rattle.std.specs.Prelude.{◌≡◌};
+    ghost use Rattle.solve_run.specs.Statuses.{problem_status};
+
+    ghost from_gives = { λ fault status. status ≡ problem_status fault };
+
+    fn from(fault: ProblemFault) -> Status {
+        match fault {
+            ProblemFault::OutOfMemory => Status::OutOfMemory,
+            fault => Status::Problem(fault),
+        }
+    }
+}
+
+impl From<RootFault> for Status {
+    ghost use Rattle.std.specs.Prelude.{◌≡◌};
+    ghost use Rattle.solve_run.specs.Statuses.{root_status};
+
+    ghost from_gives = { λ fault status. status ≡ root_status fault };
+
+    fn from(fault: RootFault) -> Status {
+        match fault {
+            RootFault::TooManyUnknowns { count } => Status::TooManyUnknowns { count },
+            RootFault::TooManyEquations { count } => Status::TooManyEquations { count },
+            RootFault::OutOfMemory => Status::OutOfMemory,
+        }
+    }
+}
+
 /// The line of a status, without an end of line.
 pub fn status_line(alloc: Global, status: &Status) -> Result<String, AllocError>
     ensures { IfOk result (λ s. string_bytes s ≡ status_text status.now) }
 {
     match status {
+        Status::Done { leaves } => format!(in alloc; "done leaves {leaves}"),
         Status::Open { leaves, opens } => format!(in alloc; "open leaves {leaves} open {opens}"),
         Status::Usage(UsageKind::Words) => String::from_str(alloc, "usage words"),
+        Status::Usage(UsageKind::Budget) => String::from_str(alloc, "usage budget"),
         Status::ReadFault => String::from_str(alloc, "read fault"),
         Status::TooLong => String::from_str(alloc, "too long"),
         Status::Problem(fault) => problem_line(alloc, fault),
@@ -108,6 +160,7 @@ pub fn exit_code(status: &Status) -> u8
     ensures { result ≡ exit_of status.now }
 {
     match status {
+        Status::Done { .. } => 0,
         Status::Open { .. } => 1,
         Status::Usage(_) => 2,
         Status::ReadFault => 3,

@@ -1,89 +1,74 @@
 //! The run.
 
-ghost use Rattle.std.specs.Prelude.{◌≡◌, ◌↔◌, IsTrue, map, string_bytes};
-ghost use Rattle.braid_io.specs.Causes.{Rose, TookMore, TookUpTo};
-ghost use Rattle.solve_run.specs.Words.{run_words};
-ghost use Rattle.solve_run.specs.Outcomes.{max_problem_bytes, Refuses, Covers, WritesPrefix, TakesSome, HasWritten, IsToldByBytes};
+ghost use Rattle.std.specs.Prelude.{◌≡◌, ℕ, map, string_bytes};
+ghost use Rattle.solve_run.specs.Streams.{TakesSome, between};
+ghost use Rattle.solve_run.specs.Outcomes.{Refuses, Counts, Ends};
 
-use crate::certificate::certificate_of;
-use crate::status::{Status, UsageKind};
-use braid_io::{ReadStop, Sink, Source, read_all, write_all_of};
+use crate::input::root_of;
+use crate::search::certificate_of;
+use crate::settings::budget_of;
+use crate::status::Status;
+use braid_io::{Sink, Source, write_all_of};
+use case_history::{accepted_law, leaf_count, open_count};
+use cert_text::write_certificate;
 use field_laws::CharZeroField;
+use leaf_cert::RawEntry;
 use root_system::root_law;
 use std::alloc::Global;
 
-/// The most bytes that a problem may have.
-const MAX_PROBLEM_BYTES: usize = 1_048_576;
-
-/// Reads a problem from the source to its end, and writes the certificate to the sink whose one leaf
-/// is the root, open because the budget 0 is used up.
+/// Reads a problem from the source to its end, searches for its solutions, and writes the certificate of the search to the sink.
 ///
-/// `words` leaves out the program's name, and is to be `--budget` and `0`. Nothing is read where the
-/// words are refused, and nothing is written but where the status is `Open` or `WriteFault`: `Open`
-/// comes exactly where the whole text was written, and `WriteFault` where only a proper prefix of it
-/// was. `TooLong` comes exactly where more than 1,048,576 bytes came. In every field of
-/// characteristic zero an assignment is a solution of the problem exactly if it meets the leaf. After
-/// every status the bytes left are a suffix of those left before.
+/// `words` leaves out the program's name. It is empty, and then the budget is 2,000 moves a case, or it is `--budget` and a number from 0 to
+/// 1,000,000 in decimal digits without leading zeros. `Usage` comes exactly where the words are others, and then nothing is read. `ReadFault` comes
+/// only where a read failed, and `TooLong` exactly where more than 1,048,576 bytes came. `Problem`, `TooManyUnknowns` and `TooManyEquations` come
+/// exactly where the bytes state no problem, or one with too many unknowns or equations. After these and after `OutOfMemory` nothing was written.
+/// `Done` and `Open` come exactly where the whole text was written, and `WriteFault` where a write failed and only a proper prefix of it was written.
+///
+/// In the field, and so in every field of characteristic zero, an assignment is a solution of the problem exactly if it meets a leaf of the
+/// certificate, and then it meets just one. After every status the bytes left are a suffix of those left before.
 pub fn run<F: CharZeroField, S: Source, K: Sink>(
     alloc: Global,
     words: &[String],
     source: &mut S,
     sink: &mut K,
 ) -> Status
-    ensures usage { (result ≡ Status.Usage UsageKind.Words) ↔ ¬ (map string_bytes words.now ≡ run_words) }
-    ensures read_fault { result ≡ Status.ReadFault → Rose (S.faults source.old) (S.faults source.new) × TookUpTo (S.left source.old) (S.left source.new) max_problem_bytes }
-    ensures too_long { result ≡ Status.TooLong → TookMore (S.left source.old) (S.left source.new) max_problem_bytes }
-    ensures problem { (fault : _) → result ≡ Status.Problem fault → Refuses (S.left source.old) (S.left source.new) (Status.Problem fault) }
-    ensures unknowns { (count : _) → result ≡ Status.TooManyUnknowns count → Refuses (S.left source.old) (S.left source.new) (Status.TooManyUnknowns count) }
-    ensures equations { (count : _) → result ≡ Status.TooManyEquations count → Refuses (S.left source.old) (S.left source.new) (Status.TooManyEquations count) }
-
-    // The headline: what was written, and what it says in the field F.
-    ensures open { (leaves opens : _) → result ≡ Status.Open leaves opens → (leaves ≡ 1) × (opens ≡ 1) × Covers F.field (S.left source.old) (S.left source.new) (K.written sink.old) (K.written sink.new) }
-    ensures write_fault { result ≡ Status.WriteFault → Rose (K.faults sink.old) (K.faults sink.new) × WritesPrefix (S.left source.old) (S.left source.new) (K.written sink.old) (K.written sink.new) }
-
-    // Where the words are right and no count rose, the bytes alone tell the answer, or memory is wanted.
-    ensures complete { map string_bytes words.now ≡ run_words → ¬ Rose (S.faults source.old) (S.faults source.new) → ¬ Rose (K.faults sink.old) (K.faults sink.new) → IsToldByBytes result }
+    // The headline: how the run ended, and what a certificate says in the field F.
+    ensures ends { Ends F.field (map string_bytes words.now) (between S.left S.faults source.old source.new) (between K.written K.faults sink.old sink.new) result }
 
     // What stays as it was.
-    ensures unread { result ≡ Status.Usage UsageKind.Words → source.new ≡ source.old }
-    ensures unwritten { ¬ HasWritten result → sink.new ≡ sink.old }
-    ensures suffix { TakesSome (S.left source.old) (S.left source.new) }
+    ensures unread { (kind : _) → result ≡ Status.Usage kind → (source.new ≡ source.old) × (sink.new ≡ sink.old) }
+    ensures unwritten { Refuses (between S.left S.faults source.old source.new) result → sink.new ≡ sink.old }
+    ensures suffix { TakesSome (between S.left S.faults source.old source.new) }
 {
-    if !are_run_words(words) {
-        return Status::Usage(UsageKind::Words);
-    }
-    let bytes = match read_all(alloc, source, MAX_PROBLEM_BYTES) {
-        Ok(bytes) => bytes,
-        Err(ReadStop::Fault) => return Status::ReadFault,
-        Err(ReadStop::TooLong) => return Status::TooLong,
-        Err(ReadStop::OutOfMemory) => return Status::OutOfMemory,
+    let budget = match budget_of(words) {
+        Ok(budget) => budget,
+        Err(kind) => return Status::Usage(kind),
     };
-    let text = match certificate_of(alloc, &bytes) {
-        Ok(text) => text,
+    let root = match root_of(alloc, source) {
+        Ok(root) => root,
         Err(status) => return status,
     };
+    let Ok(certificate) = certificate_of(alloc, root, budget) else {
+        return Status::OutOfMemory;
+    };
+    let Ok(text) = write_certificate(alloc, &certificate) else {
+        return Status::OutOfMemory;
+    };
+    accepted_law::<F>();
     root_law::<F>();
     match write_all_of(sink, &text) {
-        Ok(()) => Status::Open {
-            leaves: 1,
-            opens: 1,
-        },
+        Ok(()) => status_of(certificate.entries.items()),
         Err(_) => Status::WriteFault,
     }
 }
 
-// Whether the words are `--budget` and `0`.
-fn are_run_words(words: &[String]) -> bool
-    ensures { IsTrue result ↔ (map string_bytes words.now ≡ run_words) }
+// The status of a run that wrote these entries.
+fn status_of(entries: &[RawEntry]) -> Status
+    ensures { Counts entries.now result }
 {
-    match words {
-        [first, second] => is_word(first, "--budget") && is_word(second, "0"),
-        _ => false,
+    let leaves = leaf_count(entries);
+    match open_count(entries) {
+        0 => Status::Done { leaves },
+        opens => Status::Open { leaves, opens },
     }
-}
-
-fn is_word(word: &String, expected: &str) -> bool
-    ensures { IsTrue result ↔ (string_bytes word.now ≡ expected.now) }
-{
-    word.as_str() == expected
 }

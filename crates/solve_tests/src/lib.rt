@@ -9,6 +9,8 @@ use sparse_poly::Poly;
 use std::alloc::{AllocError, Global};
 
 #[cfg(test)]
+mod boards;
+#[cfg(test)]
 mod equations;
 #[cfg(test)]
 mod files;

@@ -19,7 +19,174 @@ use std::test::Fail;
 
 const Z2: &str = "{\"labels\":2,\"products\":[[1,1,0]]}";
 
-const Z2_TEXT: &str = "braidcert 1
+/// In each block the line of the status, the words and the problem, and then the text that is written.
+const TEXTS: &str = r#"done leaves 1 |  | {"labels":1,"products":[]}
+braidcert 1
+unknowns 0
+equations 0
+budget 2000
+leaf 0 triangular
+done 1
+
+done leaves 1 |  | {"labels":2,"products":[[1,1,0]]}
+braidcert 1
+unknowns 4
+equations 5
+budget 2000
+split 0 x0
+post
+zero x0
+fwd r0 d0 1 x0 -1 1
+end l0
+close 1 0
+split 2 x2
+post
+nonzero x0
+zero x2
+fwd r2 - 1 0 x0 x2^2-x0
+fwd l0 d1 1 x2 -x0 1
+end l1
+close 3 1
+leaf 4 triangular
+nonzero x0
+nonzero x2
+fwd r2 - 1 0 x0 x2^2-x0
+fwd r4 - 1 0 x0 x3^2-x0
+fwd l1 r3 x2 x3 1 x3-x2*x0
+fwd r3 l2 1 x2 1 x2^2*x0-1
+fwd l3 l0 1 x0 1 x0^2-1
+eq x0^2-1
+eq x1*x0-1
+eq x2^2-x0
+eq x3-x2*x0
+done 7
+
+done leaves 1 |  | {"labels":2,"products":[[0,1,1],[1,1,0]]}
+braidcert 1
+unknowns 4
+equations 5
+budget 2000
+split 0 x0
+post
+zero x0
+fwd r0 d0 1 x0 -1 1
+end l0
+close 1 0
+split 2 x2
+post
+nonzero x0
+zero x2
+fwd r2 - 1 0 x0 x2^2-x0
+fwd l0 d1 1 x2 -x0 1
+end l1
+close 3 1
+leaf 4 triangular
+nonzero x0
+nonzero x2
+fwd r2 - 1 0 x0 x2^2-x0
+fwd r4 - 1 0 x0 x3^2-x0
+fwd l1 r3 x2 x3 1 x3-x2*x0
+fwd r3 l2 1 x2 1 x2^2*x0-1
+fwd l3 l0 1 x0 1 x0^2-1
+eq x0^2-1
+eq x1*x0-1
+eq x2^2-x0
+eq x3-x2*x0
+done 7
+
+done leaves 1 | --budget 5 | {"labels":2,"products":[[1,1,0]]}
+braidcert 1
+unknowns 4
+equations 5
+budget 5
+split 0 x0
+post
+zero x0
+fwd r0 d0 1 x0 -1 1
+end l0
+close 1 0
+split 2 x2
+post
+nonzero x0
+zero x2
+fwd r2 - 1 0 x0 x2^2-x0
+fwd l0 d1 1 x2 -x0 1
+end l1
+close 3 1
+leaf 4 triangular
+nonzero x0
+nonzero x2
+fwd r2 - 1 0 x0 x2^2-x0
+fwd r4 - 1 0 x0 x3^2-x0
+fwd l1 r3 x2 x3 1 x3-x2*x0
+fwd r3 l2 1 x2 1 x2^2*x0-1
+fwd l3 l0 1 x0 1 x0^2-1
+eq x0^2-1
+eq x1*x0-1
+eq x2^2-x0
+eq x3-x2*x0
+done 7
+
+open leaves 1 open 1 | --budget 4 | {"labels":2,"products":[[1,1,0]]}
+braidcert 1
+unknowns 4
+equations 5
+budget 4
+split 0 x0
+post
+zero x0
+fwd r0 d0 1 x0 -1 1
+end l0
+close 1 0
+split 2 x2
+post
+nonzero x0
+zero x2
+fwd r2 - 1 0 x0 x2^2-x0
+fwd l0 d1 1 x2 -x0 1
+end l1
+close 3 1
+leaf 4 open budget
+nonzero x0
+nonzero x2
+fwd r2 - 1 0 x0 x2^2-x0
+fwd r4 - 1 0 x0 x3^2-x0
+fwd l1 r3 x2 x3 1 x3-x2*x0
+fwd r3 l2 1 x2 1 x2^2*x0-1
+eq x0^2-1
+eq x1*x0-1
+eq x2^2-x0
+eq x2^2*x0-1
+eq x3-x2*x0
+done 7
+
+open leaves 2 open 2 | --budget 1 | {"labels":2,"products":[[1,1,0]]}
+braidcert 1
+unknowns 4
+equations 5
+budget 1
+split 0 x0
+leaf 1 open budget
+zero x0
+eq x0
+eq x0^2-1
+eq x1*x0-1
+eq x2^2*x0-x0^2
+eq x3*x2-1
+eq x3^2*x0-x0^2
+leaf 2 open budget
+nonzero x0
+fwd r2 - 1 0 x0 x2^2-x0
+fwd r4 - 1 0 x0 x3^2-x0
+eq x0^2-1
+eq x1*x0-1
+eq x2^2-x0
+eq x3*x2-1
+eq x3^2-x0
+done 3
+
+open leaves 1 open 1 | --budget 0 | {"labels":2,"products":[[1,1,0]]}
+braidcert 1
 unknowns 4
 equations 5
 budget 0
@@ -30,18 +197,76 @@ eq x2^2*x0-x0^2
 eq x3*x2-1
 eq x3^2*x0-x0^2
 done 1
-";
 
-const NO_UNKNOWNS_TEXT: &str = "braidcert 1
-unknowns 0
-equations 0
-budget 0
-leaf 0 open budget
-done 1
-";
+done leaves 1 |  | {"labels":2,"products":[[1,1,0]],"gauge":[{"symbol":["F",1,1,1,1,0,0],"value":"1"}]}
+braidcert 1
+unknowns 4
+equations 6
+budget 2000
+split 0 x2
+post
+zero x2
+fwd r3 r0 1 -x0 1 x2^2*x0-x0
+fwd l0 r0 1 x2^2-1 1 x2^2-1
+fwd l1 d0 1 x2 -1 1
+end l2
+close 1 0
+leaf 2 triangular
+nonzero x2
+fwd r1 r0 1 x0 1 x0-1
+fwd r2 r0 1 x1 1 x1-1
+fwd r3 r0 1 -x0 1 x2^2*x0-x0
+fwd l2 r0 1 x2^2-1 1 x2^2-1
+fwd r5 r0 1 -x0 1 x3^2*x0-x0
+fwd l4 r0 1 x3^2-1 1 x3^2-1
+fwd l5 r4 x2 x3 1 x3-x2
+fwd r4 l6 1 x2 1 x2^2-1
+eq x0-1
+eq x1-1
+eq x2^2-1
+eq x3-x2
+done 4
 
-/// In each line the line of the status and the problem.
-const TABLE: &str = r#"open leaves 1 open 1 | {"labels":1,"products":[]}
+done leaves 0 |  | {"labels":2,"products":[[1,1,0]],"gauge":[{"symbol":["F",1,1,1,1,0,0],"value":"2"}]}
+braidcert 1
+unknowns 4
+equations 6
+budget 2000
+post
+fwd r1 r0 1 x0 1 2*x0-1
+fwd l0 r0 1 2 3 1
+end l1
+close 0 0
+done 2
+
+done leaves 0 |  | {"labels":2,"products":[[1,1,0]],"gauge":[{"symbol":["F",1,1,1,1,0,0],"value":"1"},{"symbol":["F",1,1,1,1,0,0],"value":"-1"}]}
+braidcert 1
+unknowns 4
+equations 7
+budget 2000
+post
+fwd r1 r0 1 1 2 1
+end l0
+close 0 0
+done 2
+
+open leaves 1 open 1 |  | {"labels":2,"products":[[1,1,0]],"gauge":[{"symbol":["F",1,1,1,1,0,0],"value":"170141183460469231731687303715884105727"}]}
+braidcert 1
+unknowns 4
+equations 6
+budget 2000
+leaf 0 open coefficient reduce x0 170141183460469231731687303715884105727*x0-1 x0-170141183460469231731687303715884105727
+fwd r1 r0 1 x0 1 170141183460469231731687303715884105727*x0-1
+eq x0-170141183460469231731687303715884105727
+eq 170141183460469231731687303715884105727*x0-1
+eq x1*x0-1
+eq x2^2*x0-x0^2
+eq x3*x2-1
+eq x3^2*x0-x0^2
+done 1"#;
+
+/// In each line the line of the status and the problem. The budget is 0.
+const TABLE: &str = r#"done leaves 1 | {"labels":1,"products":[]}
 open leaves 1 open 1 | {"labels":2,"products":[[1,1,0]]}
 open leaves 1 open 1 | {"labels":2,"products":[[1,1,0],[1,1,1]]}
 open leaves 1 open 1 | {"labels":2,"products":[[1,1,0]],"gauge":[{"symbol":["F",1,1,1,1,0,0],"value":"0"}]}
@@ -81,12 +306,23 @@ const FAULTS: &str = "8 1048576 8 1 999 | read fault 0
 8 133 8 999 999 | write fault 133
 8 1048576 8 999 999 | open leaves 1 open 1 134";
 
-/// Words that are refused, one list a line.
-const WORDS: &str = "
---budget
---budget 1
-0 --budget
---budget 0 0";
+/// In each line the line of the status of a run on Z2, and the words.
+const WORDS: &str = "usage words | --budget
+usage words | budget 0
+usage words | 0 --budget
+usage words | --budget 0 0
+usage words | --budget 0 --budget 0
+usage words | --budget=0
+usage budget | --budget 01
+usage budget | --budget -1
+usage budget | --budget +1
+usage budget | --budget 1x
+usage budget | --budget 1000001
+usage budget | --budget 18446744073709551616
+open leaves 2 open 2 | --budget 1
+open leaves 1 open 1 | --budget 4
+done leaves 1 | --budget 24
+done leaves 1 | --budget 1000000";
 
 fn words_of(alloc: Global, text: &str) -> Result<Vec<String>, AllocError> {
     let mut words = Vec::new(alloc);
@@ -109,61 +345,76 @@ fn line_of<S: Source, K: Sink>(
 }
 
 /// The line and the text of a run on these bytes with ample memory.
-fn answer(alloc: Global, bytes: &[u8]) -> Result<(String, Vec<u8>), AllocError> {
+fn answer(alloc: Global, words: &str, bytes: &[u8]) -> Result<(String, Vec<u8>), AllocError> {
     let mut source = MemSource::new(bytes.to_vec(alloc)?, 4096, Vec::new(alloc));
     let mut sink = MemSink::new(alloc, 1_048_576, 4096, Vec::new(alloc))?;
-    let line = line_of(alloc, "--budget 0", &mut source, &mut sink)?;
+    let line = line_of(alloc, words, &mut source, &mut sink)?;
     Ok((line, sink.written().to_vec(alloc)?))
 }
 
-fn is_right<R: Abort + AllocGlobal>(rt: &R, line: &str) -> Result<(), AllocError> {
-    if let Some((expected, text)) = line.split_once(" | ") {
-        let (found, written) = answer(rt.alloc(), text.as_bytes())?;
-        is(rt, &found, expected);
-        assert!(rt;
-            written.is_empty() != expected.starts_with("open"),
-            "{line}"
-        );
-    }
-    Ok(())
+/// Whether a run with this line writes.
+fn is_written(line: &str) -> bool {
+    line.starts_with("done") || line.starts_with("open")
 }
 
 fn has_line<R: Abort + AllocGlobal>(
     rt: &R,
+    words: &str,
     bytes: &[u8],
     expected: &str,
 ) -> Result<(), AllocError> {
-    let (found, _written) = answer(rt.alloc(), bytes)?;
+    let (found, written) = answer(rt.alloc(), words, bytes)?;
     is(rt, &found, expected);
+    assert!(rt; written.is_empty() != is_written(expected), "{expected}");
     Ok(())
 }
 
 #[test]
 fn answers(rt: HostRuntime) -> Result<(), Fail> {
+    let budget = "--budget 0";
     for line in TABLE.lines() {
-        is_right(&rt, line)?;
+        if let Some((expected, text)) = line.split_once(" | ") {
+            has_line(&rt, budget, text.as_bytes(), expected)?;
+        }
+    }
+    for line in WORDS.lines() {
+        if let Some((expected, words)) = line.split_once(" | ") {
+            has_line(&rt, words, Z2.as_bytes(), expected)?;
+        }
     }
     // The empty input, bytes that are no UTF-8, the most bytes, and one more.
     let mut spaces = vec![in rt.alloc(); b' '; 1_048_576]?;
-    has_line(&rt, b"", "problem not json")?;
+    has_line(&rt, budget, b"", "problem not json")?;
     has_line(
         &rt,
+        budget,
         b"{\"labels\":1,\"products\":[],\"name\":\"\xff\"}",
         "problem not json",
     )?;
-    has_line(&rt, &spaces, "problem not json")?;
+    has_line(&rt, budget, &spaces, "problem not json")?;
     spaces.push(b' ')?;
-    has_line(&rt, &spaces, "too long")?;
+    has_line(&rt, budget, &spaces, "too long")?;
     Ok(())
 }
 
-fn has_text<R: Abort + AllocGlobal>(
-    rt: &R,
-    problem: &str,
-    expected: &str,
-) -> Result<(), AllocError> {
-    let (_line, written) = answer(rt.alloc(), problem.as_bytes())?;
-    assert_eq!(rt; written.as_slice(), expected.as_bytes());
+/// Checks a block: its first line, and the text below it.
+fn has_text<R: Abort + AllocGlobal>(rt: &R, block: &str) -> Result<(), AllocError> {
+    let Some((row, text)) = block.split_once("\n") else {
+        return Ok(());
+    };
+    let Some((expected, rest)) = row.split_once(" | ") else {
+        return Ok(());
+    };
+    let Some((words, problem)) = rest.split_once(" | ") else {
+        return Ok(());
+    };
+    let (found, written) = answer(rt.alloc(), words, problem.as_bytes())?;
+    is(rt, &found, expected);
+    let Some((last, before)) = written.split_last() else {
+        panic!(rt; "nothing was written");
+    };
+    assert_eq!(rt; *last, b'\n');
+    assert_eq!(rt; before, text.as_bytes());
     Ok(())
 }
 
@@ -181,31 +432,16 @@ fn on_devices(alloc: Global, row: &[u64]) -> Result<String, AllocError> {
     format!(in alloc; "{line} {}", sink.written().len())
 }
 
-/// The line of a run on Z2 with these words, which are refused.
-fn refused(alloc: Global, words: &str) -> Result<String, AllocError> {
-    let bytes = Vec::from_slice(alloc, Z2.as_bytes())?;
-    let mut source = MemSource::new(bytes, 8, Vec::new(alloc));
-    let mut sink = MemSink::new(alloc, 8, 8, Vec::new(alloc))?;
-    line_of(alloc, words, &mut source, &mut sink)
-}
-
 #[test]
 fn texts_and_faults(rt: HostRuntime) -> Result<(), Fail> {
-    let alloc = rt.alloc();
-    has_text(&rt, Z2, Z2_TEXT)?;
-    has_text(
-        &rt,
-        "{\"labels\":2,\"products\":[[0,1,1],[1,1,0]]}",
-        Z2_TEXT,
-    )?;
-    has_text(&rt, "{\"labels\":1,\"products\":[]}", NO_UNKNOWNS_TEXT)?;
+    for block in TEXTS.split("\n\n") {
+        has_text(&rt, block)?;
+    }
     for line in FAULTS.lines() {
         if let Some((row, expected)) = line.split_once(" | ") {
-            is(&rt, &on_devices(alloc, &numbers(alloc, row)?)?, expected);
+            let found = on_devices(rt.alloc(), &numbers(rt.alloc(), row)?)?;
+            is(&rt, &found, expected);
         }
-    }
-    for words in WORDS.lines() {
-        is(&rt, &refused(alloc, words)?, "usage words");
     }
     Ok(())
 }

@@ -1,0 +1,57 @@
+-- What a run with a certificate says, from what its stages say.
+use Rattle.std.specs.Prelude.{◌≡◌, ◌↔◌, ℕ, List, refl}
+use Rattle.std.proofs.Common.{sym}
+use Rattle.std.specs.Io.KnownBytes.{Appends}
+use Rattle.field_laws.specs.Field.{Field, AllElements}
+use Rattle.derive_lines.specs.Refuting.{AllVanish}
+use Rattle.sparse_poly.specs.declared.Term.{Term}
+use Rattle.leaf_cert.specs.Parts.{LeafParts}
+use Rattle.leaf_cert.specs.Leaves.{Meets}
+use Rattle.leaf_cert.specs.declared.certificate.Certificate.{Certificate}
+use Rattle.leaf_cert.specs.declared.certificate.RawEntry.{RawEntry}
+use Rattle.ring_file.specs.Problems.{Stated}
+use Rattle.root_system.specs.Forms.{RootEquations}
+use Rattle.root_system.specs.Root.{AreRootEquations}
+use Rattle.root_system.specs.Solution.{Solution}
+use Rattle.case_history.specs.Replay.{Accepted}
+use Rattle.case_history.specs.JustOne.{MeetsJustOneLeaf}
+use Rattle.case_history.specs.Counts.{leaf_count, open_count}
+use Rattle.cert_text.specs.Sentences.{certificate_text}
+use Rattle.solve_run.specs.Words.{IsBudgetOf}
+use Rattle.solve_run.specs.Streams.{Stream}
+use Rattle.solve_run.specs.Outcomes.{StatesRoot, IsSearched, Certifies, Counts, Ends, none_open, some_open, by_leaves, by_open_leaves}
+use Rattle.solve_run.specs.declared.status.Status.{Status}
+
+-- what solves may be said in other words
+in_other_words : (P Q : Type 0) (meets : LeafParts → Type 0) (entries : List RawEntry) → P ↔ Q → MeetsJustOneLeaf P meets entries → MeetsJustOneLeaf Q meets entries
+in_other_words P Q meets entries same h = record { some = λ q. h.some (same.1 q); only = λ place is. same.0 (h.only place is); one = h.one }
+
+pub certified : {E : Type 0} (f : Field E) (words : List (List ℕ)) (source : Stream) (IsWritten : List ℕ → Type 0) (leaves opens : ℕ)
+    (bytes : List ℕ) (problem : Stated) (root : RootEquations) (budget : ℕ) (history : List RawEntry) (certificate : Certificate)
+    → ((p : Stated) (x : List E) (qs : List (List Term)) → AllElements f x → AreRootEquations p qs → AllVanish f x qs ↔ Solution f p x)
+    → ((x : List E) (unknowns : ℕ) (qs : List (List Term)) (c : Certificate) → AllElements f x → Accepted unknowns qs c → MeetsJustOneLeaf (AllVanish f x qs) (Meets f x) c.entries)
+    → IsBudgetOf words budget → StatesRoot source bytes problem root → IsSearched root budget history certificate
+    → leaves ≡ leaf_count certificate.entries → opens ≡ open_count certificate.entries → IsWritten (certificate_text certificate)
+    → Certifies f words source IsWritten leaves opens
+certified f words source IsWritten leaves opens bytes problem root budget history certificate root_law accepted_law is_budget states searched leaves_are opens_are writes = record {
+  bytes = bytes;
+  problem = problem;
+  root = root;
+  budget = budget;
+  history = history;
+  certificate = certificate;
+  is_budget = is_budget;
+  states = states;
+  searched = searched;
+  leaves_are = leaves_are;
+  opens_are = opens_are;
+  writes = writes;
+  covers = λ x elements. in_other_words (AllVanish f x root.equations) (Solution f problem x) (Meets f x) certificate.entries
+      (root_law problem x root.equations elements states.is_root.are_equations) (accepted_law x root.unknowns root.equations certificate elements searched.accepted);
+}
+
+pub counted : {E : Type 0} (f : Field E) (words : List (List ℕ)) (source sink : Stream) (entries : List RawEntry) (status : Status) → Counts entries status
+    → ((leaves opens : ℕ) → leaves ≡ leaf_count entries → opens ≡ open_count entries → Certifies f words source (Appends sink.before sink.after) leaves opens)
+    → Ends f words source sink status
+counted f words source sink entries result (none_open none) says = by_leaves (leaf_count entries) (says (leaf_count entries) 0 refl (sym none))
+counted f words source sink entries result (some_open some) says = by_open_leaves (leaf_count entries) (open_count entries) some (says (leaf_count entries) (open_count entries) refl refl)
