@@ -10,6 +10,7 @@ use case_ledger::Board;
 use case_rules::{Outcome, end_law};
 use case_split::run_case;
 use case_state::Case;
+use cert_check::{Counts, accept};
 use leaf_cert::Leaf;
 use legal_history::case_law;
 use refute_cert::Refutation;
@@ -75,5 +76,11 @@ fn replies(rt: HostRuntime) -> Result<(), Fail> {
     }
     assert_eq!(rt; board.pending(), 0);
     assert_eq!(rt; board.least_pending(), None);
+    let certificate = board.certificate(alloc)?;
+    let counts = Counts {
+        leaves: 1,
+        opens: 0,
+    };
+    assert_eq!(rt; accept(alloc, board.root(), &certificate), Ok(counts));
     Ok(())
 }

@@ -1,0 +1,5 @@
+mod LeadingTerms
+mod Ordered
+mod Due
+mod LeadingBack
+mod Running

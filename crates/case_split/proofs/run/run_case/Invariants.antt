@@ -1,0 +1,15 @@
+use Rattle.std.specs.Prelude.{◌≤◌, ◌-◌}
+use Rattle.case_rules.specs.Belonging.{Belongs}
+use Rattle.case_rules.specs.Ends.{End, IsEnd}
+use Rattle.case_split.proofs.run.run_case.Given as goal
+
+-- what ends the case as it is now ends the case that was given
+abbrev pub invariant-moves : goal.invariant-moves
+invariant-moves l = record {
+  within : l.now.moves ≤ l.budget;
+  belongs : Belongs l.root l.now;
+  ends : (o : End) → IsEnd l.root l.budget l.now o → IsEnd l.root l.budget l.case o;
+}
+
+abbrev pub decreases-moves : goal.decreases-moves
+decreases-moves l = l.budget - l.now.moves

@@ -1,0 +1,12 @@
+use Rattle.std.specs.Prelude.{◌≤◌, length}
+use Rattle.case_split.proofs.LeadingTerms.{None_divides_from}
+use Rattle.case_split.proofs.variables.lowest_dividing.Given as goal
+
+abbrev pub invariant-powers : goal.invariant-powers
+invariant-powers l = record {
+  within : l.i ≤ length l.leading.monomial;
+  none : None_divides_from l.terms l.leading.monomial l.i;
+}
+
+abbrev pub decreases-powers : goal.decreases-powers
+decreases-powers l = l.i

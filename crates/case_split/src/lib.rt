@@ -1,0 +1,11 @@
+//! The strategy on one case.
+#![tactic(auto)]
+
+mod conditions;
+mod ends;
+mod pairs;
+mod rules;
+mod run;
+mod variables;
+
+pub use run::run_case;

@@ -1,0 +1,54 @@
+//! The strategy on one case.
+ghost use Rattle.std.specs.Prelude.{◌≤◌, IfOk};
+ghost use Rattle.case_rules.specs.Belonging.{Belongs};
+ghost use Rattle.case_rules.specs.Ends.{IsEnd};
+
+use crate::conditions::settled;
+use crate::ends::{dead, leaf, split, stopped_reduction};
+use crate::rules::{Operands, dead_at, due_move};
+use case_rules::{Move, Outcome, belongs_law, move_law};
+use case_state::Case;
+use leaf_cert::{Leaf, LeafEnd, OpenCause};
+use refute_cert::Refutation;
+use sparse_poly::Poly;
+use std::alloc::{AllocError, Global};
+
+/// The end of the strategy on a case that belongs to a root, with a budget of moves. Moves are made while one is due: a reduction goes on, and a
+/// split ends with both branches. A case that is dead, or in which no move is due and a known condition has the full remainder zero by the
+/// equations, ends with its refutation. It ends as a leaf where no move is due, where the budget is used up, or where the step of the move is of
+/// too high degree or heavy. It fails only where no memory is left.
+pub fn run_case(
+    alloc: Global,
+    root: &[Poly],
+    case: &Case,
+    budget: u32,
+) -> Result<Outcome<Case, Refutation, Leaf>, AllocError>
+    requires belongs { Belongs root.now case.now }
+    requires within { case.now.moves ≤ budget }
+    ensures { IfOk result (IsEnd root.now budget case.now) }
+{
+    belongs_law();
+    move_law();
+    let mut now = case.copy()?;
+    'moves: loop {
+        if let Some(i) = dead_at(&now) {
+            return dead(alloc, root, &now, i);
+        }
+        let Some(due) = due_move(alloc, &now)? else {
+            return settled(alloc, root, &now);
+        };
+        if now.moves() >= budget {
+            let leaf = leaf(alloc, root, &now, LeafEnd::Open(OpenCause::Budget))?;
+            return Ok(Outcome::Leaf(leaf));
+        }
+        match due {
+            Move::Split { by, tail } => return split(alloc, root, &now, by, tail),
+            Move::Reduce { q, p, v } => {
+                if let Err(fault) = now.reduce(q, p, v) {
+                    let operands = Operands { q, p, var: v };
+                    return stopped_reduction(alloc, root, &now, operands, fault);
+                }
+            }
+        }
+    }
+}
