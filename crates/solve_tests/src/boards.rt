@@ -6,7 +6,7 @@ ghost use Rattle.legal_history.specs.Legal.{IsEndOf};
 
 use crate::numbers;
 use crate::tables::is;
-use case_ledger::Board;
+use case_ledger::{Board, Look};
 use case_rules::{Outcome, end_law};
 use case_split::run_case;
 use case_state::Case;
@@ -62,11 +62,24 @@ fn reply_of(alloc: Global, board: &mut Board, n: u64) -> Result<String, AllocErr
     }
 }
 
+/// What a look at case n answers; of a pending case the number of its decisions.
+fn look_of(alloc: Global, board: &Board, n: u64) -> Result<String, AllocError> {
+    match board.look(n)? {
+        Look::Pending(case) => {
+            let decisions = case.decisions().len();
+            format!(in alloc; "pending {decisions}")
+        }
+        Look::Settled { at } => format!(in alloc; "settled {at}"),
+        Look::NoCase => String::from_str(alloc, "no case"),
+    }
+}
+
 #[test]
 fn replies(rt: HostRuntime) -> Result<(), Fail> {
     let alloc = rt.alloc();
     let problem = read_problem(alloc, PROBLEM.as_bytes())?;
     let mut board = Board::new(alloc, Root::new(alloc, &problem)?, 2_000)?;
+    is(&rt, &look_of(alloc, &board, 0)?, "pending 0");
     for line in REPLIES.lines() {
         if let Some((number, expected)) = line.split_once(" | ") {
             for n in numbers(alloc, number)? {
@@ -74,6 +87,8 @@ fn replies(rt: HostRuntime) -> Result<(), Fail> {
             }
         }
     }
+    is(&rt, &look_of(alloc, &board, 3)?, "settled 6");
+    is(&rt, &look_of(alloc, &board, 5)?, "no case");
     assert_eq!(rt; board.pending(), 0);
     assert_eq!(rt; board.least_pending(), None);
     let certificate = board.certificate(alloc)?;
