@@ -1,0 +1,4 @@
+pub mod Fields
+pub mod Sentences
+pub mod Numbers
+pub mod Text
