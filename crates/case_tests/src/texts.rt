@@ -15,7 +15,7 @@ pub fn text_of(
 ) -> Result<Vec<u8>, AllocError> {
     let mut text = Vec::new(alloc);
     match end {
-        Outcome::Split { by, .. } => write_words(&mut text, "split", [by])?,
+        Outcome::Split { by, .. } => write_word(&mut text, "split", by)?,
         Outcome::Dead(refutation) => write_dead(alloc, &mut text, refutation)?,
         Outcome::Leaf(leaf) => write_leaf(alloc, &mut text, leaf)?,
     }
@@ -38,7 +38,7 @@ fn write_leaf(alloc: Global, text: &mut Vec<u8>, leaf: &Leaf) -> Result<(), Allo
     write_decisions(text, leaf.decisions())?;
     write_lines(alloc, text, leaf.lines())?;
     for poly in leaf.equations() {
-        write_words(text, "\neq", [poly])?;
+        write_word(text, "\neq", poly)?;
     }
     Ok(())
 }
@@ -63,13 +63,14 @@ fn write_stop(
     };
     let v = stop.v;
     let words = format!(in alloc; "{cause} {step} x{v}")?;
-    write_words(text, &words, [&stop.q, &stop.p])
+    write_word(text, &words, &stop.q)?;
+    write_word(text, "", &stop.p)
 }
 
 fn write_decisions(text: &mut Vec<u8>, decisions: &[Decision]) -> Result<(), AllocError> {
     for decision in decisions {
         let word = if decision.zero { "\nzero" } else { "\nnonzero" };
-        write_words(text, word, [&decision.poly])?;
+        write_word(text, word, &decision.poly)?;
     }
     Ok(())
 }
@@ -84,7 +85,9 @@ fn write_lines(alloc: Global, text: &mut Vec<u8>, lines: &[Line]) -> Result<(), 
         write_item(alloc, text, line.from)?;
         text.push(b' ')?;
         write_item(alloc, text, line.by)?;
-        write_words(text, "", [&line.l, &line.a, &line.m, &line.made])?;
+        for poly in [&line.l, &line.a, &line.m, &line.made] {
+            write_word(text, "", poly)?;
+        }
     }
     Ok(())
 }
@@ -99,16 +102,9 @@ fn write_item(alloc: Global, text: &mut Vec<u8>, item: Option<Item>) -> Result<(
     text.extend_from_slice(name.as_bytes())
 }
 
-// Words and polynomials, with spaces between.
-fn write_words<const N: usize>(
-    text: &mut Vec<u8>,
-    words: &str,
-    polys: [&Poly; N],
-) -> Result<(), AllocError> {
-    text.extend_from_slice(words.as_bytes())?;
-    for poly in polys {
-        text.push(b' ')?;
-        write_poly(poly, text)?;
-    }
-    Ok(())
+// A word and a polynomial, with a space between.
+fn write_word(text: &mut Vec<u8>, word: &str, poly: &Poly) -> Result<(), AllocError> {
+    text.extend_from_slice(word.as_bytes())?;
+    text.push(b' ')?;
+    write_poly(poly, text)
 }

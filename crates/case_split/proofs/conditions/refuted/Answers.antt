@@ -34,5 +34,5 @@ returns c =
     let some = some_lines c.args.root.now c.args.case.now c.requires.belongs c.requires.settled c.args.k c.requires.place c.args.steps.items c.requires.zero in
     IfOk-weaker c.cone_under.result _ _
     (λ r h. refutation_by c.args.root.now c.args.case.now c.requires.belongs c.requires.settled c.args.k c.requires.place c.args.steps.items c.requires.zero (c.len.result - 1) r (omega (arith, some, ap (λ (ls : List Line). length ls) lines, c.len.ensures))
-        (same_cone c.args.root.now c.args.case.now.decisions c.as_slice.result.now _ c.deref.result.now (item.Line (c.len.result - 1)) (item.Line (c.len.result - 1)) r (search rules) (c.deref.ensures.value ∙ lines) refl h))
+    (same_cone c.args.root.now c.args.case.now.decisions c.as_slice.result.now _ c.deref.result.now (item.Line (c.len.result - 1)) (item.Line (c.len.result - 1)) r (search rules) (c.deref.ensures.value ∙ lines) refl h))
     c.cone_under.ensures.cone
