@@ -27,6 +27,7 @@ use Rattle.hexagon_gen.specs.Differences.{IsHexagonEquation}
 use Rattle.gauge_fix.specs.Inverses.{IsInverseEquation}
 use Rattle.gauge_fix.specs.Gauge.{IsGaugeDifference}
 use Rattle.ring_file.specs.Problems.{Stated}
+use Rattle.sparse_poly.specs.Reads.{HasVariablesBelow}
 use Rattle.root_system.specs.Forms.{IsRootEquation}
 use Rattle.root_system.specs.Root.{AreDifferencesOf, AreRootEquations}
 
