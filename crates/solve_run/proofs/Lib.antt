@@ -1,4 +1,5 @@
 pub mod Refusals
 pub mod Apart
+pub mod Searched
 pub mod Certified
 pub mod Told
