@@ -5,7 +5,7 @@ use Rattle.braid_io.specs.Causes.{WrotePart}
 use Rattle.leaf_cert.specs.declared.certificate.RawEntry.{RawEntry}
 use Rattle.case_history.specs.Counts.{leaf_count, open_count}
 use Rattle.solve_run.specs.Outcomes.{Counts, by_words, by_source, by_sink, lacks_memory}
-use Rattle.solve_run.proofs.Apart.{refused_or_written}
+use Rattle.solve_run.proofs.Apart.{refused_or_written, written_is_no_usage}
 use Rattle.solve_run.proofs.Certified.{certified, counted}
 use Rattle.solve_run.proofs.top.run.Goals as goal
 
@@ -32,6 +32,9 @@ returns-in-Ok-write_all_of-clause-ends g c =
     counted _ _ _ _ certificate.entries c.status_of.result (subst (λ (entries : List RawEntry). Counts entries c.status_of.result) c.items.ensures c.status_of.ensures)
     (λ leaves opens l o. certified _ _ _ (λ text. Appends before after text) leaves opens states.0 states.1 c.in-Ok-root_of.root c.in-Ok.budget searched.0 certificate
     c.root_law.ensures c.accepted_law.ensures c.in-Ok.ensures states.2 searched.1 l o written)
+
+pub returns-in-Ok-write_all_of-clause-unread : goal.returns-in-Ok-write_all_of-clause-unread
+returns-in-Ok-write_all_of-clause-unread g c kind e = absurd (written_is_no_usage _ kind c.status_of.result c.status_of.ensures e)
 
 pub returns-in-Ok-write_all_of-clause-unwritten : goal.returns-in-Ok-write_all_of-clause-unwritten
 returns-in-Ok-write_all_of-clause-unwritten g c refused = absurd (refused_or_written _ _ c.status_of.result refused c.status_of.ensures)
