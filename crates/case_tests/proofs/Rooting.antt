@@ -5,11 +5,16 @@ use Rattle.std.proofs.lemmas.List.{drop_more}
 use Rattle.std.specs.List.{AllByRecursion}
 use Rattle.std.specs.List.Sorted.{IsStrictlySortedBy}
 use Rattle.sparse_poly.specs.declared.Term.{Term}
+use Rattle.std.specs.declared.cmp.Ordering.TheVariants.{Equal}
 use Rattle.sparse_poly.specs.Order.{poly_cmp}
+use Rattle.sparse_poly.specs.OrderLaws.{poly_cmp-IsAntisymmetric}
 use Rattle.sparse_poly.specs.Contributions.{IsPoly}
-use Rattle.sparse_poly.specs.Primitive.{IsPrimitive}
-use Rattle.case_rules.specs.Cases.{numbered, polys_of}
-use Rattle.case_rules.specs.Belonging.{IsRootList}
+use Rattle.sparse_poly.specs.Primitive.{IsPrimitive, IsPrimitivePart}
+use Rattle.case_rules.specs.Cases.{CaseState, root_case, numbered, polys_of}
+use Rattle.case_rules.specs.EndLaws.{AreBranches, AreEndLaws}
+use Rattle.case_rules.specs.Ends.{IsEnd}
+use Rattle.case_rules.specs.declared.outcome.Outcome.TheVariants.{Split}
+use Rattle.case_rules.specs.Belonging.{Belongs, IsRootList}
 use Rattle.case_tests.specs.Roots.{IsRootPoly, IsBelowAll}
 
 -- root equations by recursion
@@ -51,3 +56,14 @@ root_list ps h = record {
 
 pub whole_list : (ps : List (List Term)) (i : ℕ) → length ps ≤ i → (AreRootPolys (drop i ps) → AreRootPolys ps) → IsRootList ps
 whole_list ps i l f = root_list ps (f (subst AreRootPolys (sym (nothing_left ps i l)) tt))
+
+-- a polynomial that is its own primitive part
+pub own_part : (p q : List Term) → IsPoly p → IsPrimitivePart p q → q ≢ [] → poly_cmp p q ≡ Equal → IsRootPoly p
+own_part p q h k z e = let same : p ≡ q = poly_cmp-IsAntisymmetric p q e in record { poly = h; primitive = subst IsPrimitive (sym same) k.primitive; nonzero = λ n. z (sym same ∙ n) }
+
+-- the root case, and the branches of a case
+pub started : (root : List (List Term)) (budget : ℕ) (c : CaseState) → c ≡ root_case root → Belongs root (root_case root) → Belongs root c × (c.moves ≤ budget)
+started root budget c e b = (subst (Belongs root) (sym e) b, subst (λ (c : CaseState). c.moves ≤ budget) (sym e) (omega arith))
+
+pub branches : (root : List (List Term)) (budget : ℕ) (c : CaseState) (by : List Term) (d e : CaseState) → AreEndLaws root budget → Belongs root c → c.moves ≤ budget → IsEnd root budget c (Split by d e) → AreBranches root budget c by d e
+branches root budget c by d e laws b w h = laws.split c by d e b w h

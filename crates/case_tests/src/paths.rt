@@ -1,7 +1,8 @@
 //! Cases by the branches that lead to them.
-ghost use Rattle.case_rules.specs.Belonging.{IsRootList};
+ghost use Rattle.std.specs.Prelude.{◌≤◌, IfOk, IfSome};
+ghost use Rattle.case_rules.specs.Belonging.{Belongs, IsRootList};
 
-use case_rules::{Outcome, end_law};
+use case_rules::{Outcome, belongs_law, end_law};
 use case_split::run_case;
 use case_state::Case;
 use leaf_cert::Leaf;
@@ -19,13 +20,44 @@ pub fn end_at(
 ) -> Result<Option<Outcome<Case, Refutation, Leaf>>, AllocError>
     requires { IsRootList root.now }
 {
-    end_law();
+    belongs_law();
     let mut case = Case::root(alloc, root)?;
-    for branch in path.as_bytes() {
-        let Outcome::Split { zero, nonzero, .. } = run_case(alloc, root, &case, budget)? else {
+    for letter in path.as_bytes() {
+        let Some(branch) = branch_of(alloc, root, &case, *letter == b'z', budget)? else {
             return Ok(None);
         };
-        case = if *branch == b'z' { zero } else { nonzero };
+        case = branch;
     }
     Ok(Some(run_case(alloc, root, &case, budget)?))
+}
+
+// A branch of a case, where it is split.
+fn branch_of(
+    alloc: Global,
+    root: &[Poly],
+    case: &Case,
+    zero: bool,
+    budget: u32,
+) -> Result<Option<Case>, AllocError>
+    requires root { IsRootList root.now }
+    requires belongs { Belongs root.now case.now }
+    requires within { case.now.moves ≤ budget }
+    ensures belongs { IfOk result (λ o. IfSome o (Belongs root.now)) }
+    ensures within { IfOk result (λ o. IfSome o (λ c. c.moves ≤ budget)) }
+{
+    end_law();
+    match run_case(alloc, root, case, budget)? {
+        Outcome::Split {
+            zero: branch,
+            nonzero: other,
+            ..
+        } => {
+            if zero {
+                return Ok(Some(branch));
+            }
+            Ok(Some(other))
+        }
+        Outcome::Dead(_) => Ok(None),
+        Outcome::Leaf(_) => Ok(None),
+    }
 }

@@ -31,7 +31,11 @@ fn is_root_poly(poly: &Poly) -> Result<bool, AllocError>
     if part.is_zero() {
         return Ok(false);
     }
-    Ok(matches!(poly.order(&part), Ordering::Equal))
+    match poly.order(&part) {
+        Ordering::Equal => Ok(true),
+        Ordering::Less => Ok(false),
+        Ordering::Greater => Ok(false),
+    }
 }
 
 // The members after a place.
