@@ -9,8 +9,6 @@ use sparse_poly::Poly;
 use std::alloc::{AllocError, Global};
 
 #[cfg(test)]
-mod boards;
-#[cfg(test)]
 mod equations;
 #[cfg(test)]
 mod files;

@@ -4,8 +4,6 @@ ghost use Rattle.std.specs.Prelude.{IfOk};
 ghost use Rattle.case_history.specs.History.{IsPending};
 ghost use Rattle.legal_history.specs.Legal.{IsEndOf};
 
-use crate::numbers;
-use crate::tables::is;
 use case_ledger::{Board, Look};
 use case_rules::{Outcome, end_law};
 use case_split::run_case;
@@ -62,6 +60,18 @@ fn reply_of(alloc: Global, board: &mut Board, n: u64) -> Result<String, AllocErr
     }
 }
 
+/// Whether settling the case whose number a line begins with answers what the line says.
+fn is_right(alloc: Global, board: &mut Board, line: &str) -> Result<bool, AllocError> {
+    let Some((number, expected)) = line.split_once(" | ") else {
+        return Ok(false);
+    };
+    let Ok(n) = number.parse::<u64>() else {
+        return Ok(false);
+    };
+    let reply = reply_of(alloc, board, n)?;
+    Ok(reply.as_str() == expected)
+}
+
 /// What a look at case n answers; of a pending case the number of its decisions.
 fn look_of(alloc: Global, board: &Board, n: u64) -> Result<String, AllocError> {
     match board.look(n)? {
@@ -74,28 +84,38 @@ fn look_of(alloc: Global, board: &Board, n: u64) -> Result<String, AllocError> {
     }
 }
 
+/// Whether a look at case n answers this.
+fn looks(alloc: Global, board: &Board, n: u64, expected: &str) -> Result<bool, AllocError> {
+    let look = look_of(alloc, board, n)?;
+    Ok(look.as_str() == expected)
+}
+
+/// The board of the problem, with case 0 pending.
+fn board_of(alloc: Global) -> Result<Board, Fail> {
+    let problem = read_problem(alloc, PROBLEM.as_bytes())?;
+    let root = Root::new(alloc, &problem)?;
+    Ok(Board::new(alloc, root, 2_000)?)
+}
+
+/// Whether the certificate of the board is accepted, with these numbers of leaves and open leaves.
+fn is_accepted(alloc: Global, board: &Board, leaves: u64, opens: u64) -> Result<bool, AllocError> {
+    let certificate = board.certificate(alloc)?;
+    let counts = Counts { leaves, opens };
+    Ok(accept(alloc, board.root(), &certificate) == Ok(counts))
+}
+
 #[test]
 fn replies(rt: HostRuntime) -> Result<(), Fail> {
     let alloc = rt.alloc();
-    let problem = read_problem(alloc, PROBLEM.as_bytes())?;
-    let mut board = Board::new(alloc, Root::new(alloc, &problem)?, 2_000)?;
-    is(&rt, &look_of(alloc, &board, 0)?, "pending 0");
+    let mut board = board_of(alloc)?;
+    assert!(rt; looks(alloc, &board, 0, "pending 0")?);
     for line in REPLIES.lines() {
-        if let Some((number, expected)) = line.split_once(" | ") {
-            for n in numbers(alloc, number)? {
-                is(&rt, &reply_of(alloc, &mut board, n)?, expected);
-            }
-        }
+        assert!(rt; is_right(alloc, &mut board, line)?, "{line}");
     }
-    is(&rt, &look_of(alloc, &board, 3)?, "settled 6");
-    is(&rt, &look_of(alloc, &board, 5)?, "no case");
+    assert!(rt; looks(alloc, &board, 3, "settled 6")?);
+    assert!(rt; looks(alloc, &board, 5, "no case")?);
     assert_eq!(rt; board.pending(), 0);
     assert_eq!(rt; board.least_pending(), None);
-    let certificate = board.certificate(alloc)?;
-    let counts = Counts {
-        leaves: 1,
-        opens: 0,
-    };
-    assert_eq!(rt; accept(alloc, board.root(), &certificate), Ok(counts));
+    assert!(rt; is_accepted(alloc, &board, 1, 0)?);
     Ok(())
 }
