@@ -16,7 +16,7 @@ ghost use Rattle.case_rules.specs.Ends.{leaf_of, IsStoppedBy, IsEnd};
 use crate::rules::Operands;
 use case_rules::{Outcome, move_law};
 use case_state::Case;
-use leaf_cert::{Leaf, LeafEnd, LeafStop, OpenCause, StepKind, Stop, leaf_answer_law};
+use leaf_cert::{Leaf, LeafEnd, OpenCause, StepKind, Stop};
 use refute_cert::Refutation;
 use sparse_poly::{Poly, PolyFault};
 use std::alloc::{AllocError, Global};
@@ -148,22 +148,14 @@ fn cause(fault: PolyFault, stop: Stop) -> Result<OpenCause, AllocError>
     }
 }
 
-/// A case as a leaf with this end. It is checked once more, and never refused.
+/// A case as a leaf with this end. It fails only where no memory is left.
 pub fn leaf(alloc: Global, root: &[Poly], case: &Case, end: LeafEnd) -> Result<Leaf, AllocError>
     requires belongs { Belongs root.now case.now }
     requires checks { EndChecks (polys case.now) (known case.now) end }
     ensures { IfOk result (λ l. l ≡ leaf_of case.now end) }
 {
-    leaf_answer_law();
     let decisions = case.decisions().copies(alloc)?;
     let lines = case.lines().copies(alloc)?;
     let equations = case.equations().polys(alloc)?;
-    match Leaf::checked(alloc, root, decisions, lines, equations, end) {
-        Ok(leaf) => Ok(leaf),
-        Err(LeafStop::OutOfMemory) => Err(AllocError),
-        Err(LeafStop::Line { .. }) => unreachable!(),
-        Err(LeafStop::Equation { .. }) => unreachable!(),
-        Err(LeafStop::Lost { .. }) => unreachable!(),
-        Err(LeafStop::End) => unreachable!(),
-    }
+    Ok(Leaf::of_good_parts(root, decisions, lines, equations, end))
 }

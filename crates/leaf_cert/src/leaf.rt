@@ -1,6 +1,6 @@
 //! Leaves.
 ghost use Rattle.std.specs.Prelude.{◌≡◌, MatchResult};
-ghost use Rattle.leaf_cert.specs.Leaves.{IsLeaf, IsLeafStop};
+ghost use Rattle.leaf_cert.specs.Leaves.{GoodLeaf, IsLeaf, IsLeafStop};
 
 use crate::checking::check_leaf;
 use crate::ends::LeafEnd;
@@ -82,6 +82,25 @@ impl Leaf {
             equations,
             end,
         })
+    }
+
+    /// The leaf of these parts, which are known to be good over the root: nothing is checked.
+    pub fn of_good_parts(
+        _root: &[Poly],
+        decisions: Vec<Decision>,
+        lines: Vec<Line>,
+        equations: Vec<Poly>,
+        end: LeafEnd,
+    ) -> Leaf
+        requires { GoodLeaf _root.now (record { decisions = decisions.items; lines = lines.items; equations = equations.items; end = end }) }
+        ensures { IsLeaf _root.now decisions.items lines.items equations.items end result }
+    {
+        Leaf {
+            decisions,
+            lines,
+            equations,
+            end,
+        }
     }
 
     /// The equations, in ascending order.
