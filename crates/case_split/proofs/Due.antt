@@ -1,6 +1,6 @@
 -- The rules that give the move that is due.
-use Rattle.std.specs.Prelude.{◌≡◌, ◌≢◌, ◌<◌, ◌≤◌, ◌⊎◌, ℕ, zero, suc, ◌+◌, ℤ, pos, negsuc, List, [], ◌∷◌, length, All, slice_index_or, MatchOption, refl}
-use mathlib.Core.Logic.{inl, inr}
+use Rattle.std.specs.Prelude.{◌≡◌, ◌≢◌, ◌<◌, ◌≤◌, ℕ, zero, suc, ◌+◌, ℤ, pos, negsuc, List, [], MatchOption, refl}
+use mathlib.Core.Logic.{inl}
 use Rattle.std.proofs.Common.{arith, subst, sym, ◌∙◌, ap, below_more}
 use Rattle.std.specs.declared.option.Option.{Option}
 use Rattle.std.specs.declared.option.Option.TheVariants.{None, Some}
@@ -13,9 +13,9 @@ use Rattle.char_set.specs.Triangular.{IsDecided}
 use Rattle.derive_lines.specs.Refuting.{IsNonzeroConstant}
 use Rattle.case_rules.specs.declared.moves.Move.{Move}
 use Rattle.case_rules.specs.declared.moves.Move.TheVariants.{Reduce, Split}
-use Rattle.case_rules.specs.Cases.{CaseState, known, poly, polys, count}
+use Rattle.case_rules.specs.Cases.{CaseState, known, poly, count}
 use Rattle.case_rules.specs.Belonging.{Belongs}
-use Rattle.case_rules.specs.Rules.{None_has, IsLeast, IsAlive, IsLinearIn, IsOtherWith, IsLinearAt, IsLinearMove, IsFactorAt, IsFactorMove, IsLowestDividing, IsPaired, IsUndecidedAt, IsMove, IsSettled, linear, factor, pair_reduction, pair_split, initial_split}
+use Rattle.case_rules.specs.Rules.{None_has, IsLeast, IsAlive, IsLinearIn, IsOtherWith, IsLinearAt, IsLinearMove, IsFactorAt, IsFactorMove, IsLowestDividing, IsPaired, IsUndecidedAt, IsMove, factor, pair_reduction, pair_split, initial_split}
 use Rattle.case_rules.proofs.Regular.{polys_at, polys_length, constant_of}
 use Rattle.case_split.specs.Found.{IsVariable, AreInOrder, HaveMain, IsPair, IsSplitFor}
 
@@ -52,6 +52,14 @@ pub linear_at : (c : CaseState) (q p v : ℕ) (x : List Term) → p < count c �
 linear_at c q p v x l e m n o =
     let own : IsLinearIn (poly c p) v = subst (λ x. IsLinearIn x v) e m in
     record { least = record { has = record { place = l; v = v; linear = own; q = q; other = o.has }; none_below = n }; linear = own; least_other = o }
+
+-- of some equations only the one at a place may be due by Linear, and it is not linear
+pub none_new : (c : CaseState) (n i : ℕ) (at : Option ℕ) (p : List Term) → at ≡ Some i → p ≡ poly c i → ((v : ℕ) → IsLinearIn p v → ⊥) → ((j : ℕ) → j < n → IsLinearAt c j → at ≡ Some j) → (j : ℕ) → j < n → ¬ IsLinearAt c j
+none_new c n i at p e f none only j l h = let same : Some i ≡ Some j = sym e ∙ only j l h in let k : i ≡ j = cc same in not_linear c i p f none (subst (IsLinearAt c) (sym k) h)
+
+-- of the first n only one may have a property, and it stands after these
+pub none_beyond : (P : ℕ → Type 0) (n i : ℕ) (at : Option ℕ) → at ≡ Some i → n ≤ i → ((j : ℕ) → j < n → P j → at ≡ Some j) → (j : ℕ) → j < n → ¬ P j
+none_beyond P n i at e b only j l h = let same : Some i ≡ Some j = sym e ∙ only j l h in let k : i ≡ j = cc same in absurd (omega (arith, l, b, k))
 
 -- an equation that no variable divides, one that is a variable, and one that is neither
 pub not_divided : (c : CaseState) (i : ℕ) (p : List Term) → p ≡ poly c i → None_has (λ v. IsDividedBy v p) → ¬ IsFactorAt c i

@@ -8,7 +8,7 @@ use Rattle.std.specs.List.{AllByRecursion}
 use Rattle.std.specs.declared.option.Option.{Option}
 use Rattle.std.specs.declared.option.Option.TheVariants.{None, Some}
 use Rattle.std.specs.declared.cmp.Ordering.TheVariants.{Less}
-use Rattle.monomial.specs.Monomials.{exponent, top, without, monomial_cmp, IsBelow, IsPowers, IsMonomial, IsLower, IsGreatestAbove}
+use Rattle.monomial.specs.Monomials.{exponent, top, without, monomial_cmp, IsBelow, IsPowers, IsMonomial, IsLower}
 use Rattle.monomial.proofs.Exponents.{exponent_here, exponent_there}
 use Rattle.monomial.proofs.Greatest.{top-greatest}
 use Rattle.monomial.proofs.Lower.{IsLower-from_cmp}
@@ -20,7 +20,7 @@ use Rattle.sparse_poly.specs.Clearing.{IsDividedBy}
 use Rattle.sparse_poly.proofs.Adding.{none_before}
 use Rattle.sparse_poly.proofs.Ordered.{main_variable-leading}
 use Rattle.char_set.specs.Triangular.{initial, initial_in}
-use Rattle.case_rules.specs.Rules.{None_has, IsLeast, IsLinearIn, IsLowestDividing}
+use Rattle.case_rules.specs.Rules.{None_has, IsLinearIn, IsLowestDividing}
 use Rattle.case_split.specs.Found.{IsVariable}
 
 -- a variable as a monomial
@@ -69,7 +69,7 @@ pub leading_degree_in : (t : Term) (ts : List Term) (v : ℕ) → IsPoly (t ∷ 
 leading_degree_in t ts v h e = same_max (exponent t.monomial v) (degree_in v ts) (exponent t.monomial v) refl (others_below t.monomial ts v h.monomials.0.powers e h.monomials.1 h.falling.0)
 
 -- what is below a variable does not contain it
-lower_zero : (a : List (ℕ × ℕ)) (v : ℕ) → IsPowers a → monomial_cmp a (alone v) ≡ Less → exponent a v ≡ 0
+pub lower_zero : (a : List (ℕ × ℕ)) (v : ℕ) → IsPowers a → monomial_cmp a (alone v) ≡ Less → exponent a v ≡ 0
 lower_zero a v h e = each (IsLower-from_cmp a (alone v) h (omega arith, tt, tt) e)
   where
     each : IsLower a (alone v) → exponent a v ≡ 0
@@ -194,28 +194,27 @@ places_fall (p ∷ ps) (suc i) (suc j) h k l = places_fall ps i j h.2 (omega (ar
 abbrev pub None_divides_from : List Term → List (ℕ × ℕ) → ℕ → Type 0
 None_divides_from p m i = (j : ℕ) → i ≤ j → j < length m → IsDividedBy (slice_index_or m j (0, 0)).0 p → ⊥
 
-pub none_divides : (p : List Term) (t : Term) → Some t ≡ slice_get p 0 → None_divides_from p t.monomial 0 → None_has (λ v. IsDividedBy v p)
-none_divides [] t e n v d = absurd (cc e)
-none_divides (u ∷ us) t e n v d =
-    let same : t ≡ u = cc e in
-    let m : List (ℕ × ℕ) = t.monomial in
-    let r = place_of_variable m v (subst (λ (t : Term). 0 < exponent t.monomial v) (sym same) d.0) in
-    n r.0 (omega arith) r.1 (subst (λ w. IsDividedBy w (u ∷ us)) (sym r.2) d)
+-- a variable that divides a polynomial occurs in each term
+divides_term : (v : ℕ) (p : List Term) (k : ℕ) (t : Term) → Some t ≡ slice_get p k → IsDividedBy v p → 0 < exponent t.monomial v
+divides_term v [] k t e d = absurd (cc e)
+divides_term v (u ∷ us) zero t e d = let same : t ≡ u = cc e in subst (λ (t : Term). 0 < exponent t.monomial v) (sym same) d.0
+divides_term v (u ∷ us) (suc k) t e d = divides_term v us k t e d.1
 
-pub lowest_at : (p : List Term) (t : Term) (i : ℕ) → Some t ≡ slice_get p 0 → IsPowers t.monomial → i < length t.monomial → None_divides_from p t.monomial (i + 1) → IsDividedBy (slice_index_or t.monomial i (0, 0)).0 p → IsLowestDividing p (slice_index_or t.monomial i (0, 0)).0
-lowest_at [] t i e h l n d = absurd (cc e)
-lowest_at (u ∷ us) t i e h l n d = record { has = d; none_below = λ w k g. below w k g }
+pub none_divides : (p : List Term) (k : ℕ) (t : Term) → Some t ≡ slice_get p k → None_divides_from p t.monomial 0 → None_has (λ v. IsDividedBy v p)
+none_divides p k t e n v d =
+    let r = place_of_variable t.monomial v (divides_term v p k t e d) in
+    n r.0 (omega arith) r.1 (subst (λ w. IsDividedBy w p) (sym r.2) d)
+
+pub lowest_at : (p : List Term) (k : ℕ) (t : Term) (i : ℕ) → Some t ≡ slice_get p k → IsPowers t.monomial → i < length t.monomial → None_divides_from p t.monomial (i + 1) → IsDividedBy (slice_index_or t.monomial i (0, 0)).0 p → IsLowestDividing p (slice_index_or t.monomial i (0, 0)).0
+lowest_at p k t i e h l n d = record { has = d; none_below = λ w b g. below w b g }
   where
-    same : t ≡ u
-    same = cc e
-
-    below : (w : ℕ) → w < (slice_index_or t.monomial i (0, 0)).0 → IsDividedBy w (u ∷ us) → ⊥
-    below w k g = let r = place_of_variable t.monomial w (subst (λ (t : Term). 0 < exponent t.monomial w) (sym same) g.0) in each r.0 r.1 r.2 (cases_order r.0 i)
+    below : (w : ℕ) → w < (slice_index_or t.monomial i (0, 0)).0 → IsDividedBy w p → ⊥
+    below w b g = let r = place_of_variable t.monomial w (divides_term w p k t e g) in each r.0 r.1 r.2 (cases_order r.0 i)
       where
         each : (j : ℕ) → j < length t.monomial → (slice_index_or t.monomial j (0, 0)).0 ≡ w → (j ≡ i) ⊎ ((j < i) ⊎ (i < j)) → ⊥
-        each j lj ej (inl x) = absurd (omega (arith, k, ej, ap (λ j. (slice_index_or t.monomial j (0, 0)).0) x))
-        each j lj ej (inr (inl x)) = let f = places_fall t.monomial j i h x l in absurd (omega (arith, k, ej, f))
-        each j lj ej (inr (inr x)) = n j (omega (arith, x)) lj (subst (λ w. IsDividedBy w (u ∷ us)) (sym ej) g)
+        each j lj ej (inl x) = absurd (omega (arith, b, ej, ap (λ j. (slice_index_or t.monomial j (0, 0)).0) x))
+        each j lj ej (inr (inl x)) = let f = places_fall t.monomial j i h x l in absurd (omega (arith, b, ej, f))
+        each j lj ej (inr (inr x)) = n j (omega (arith, x)) lj (subst (λ w. IsDividedBy w p) (sym ej) g)
 
 pub none_more_divides : (p : List Term) (m : List (ℕ × ℕ)) (i : ℕ) → None_divides_from p m (i + 1) → (IsDividedBy (slice_index_or m i (0, 0)).0 p → ⊥) → None_divides_from p m i
 none_more_divides p m i n d j a b = each (cases_order j i)

@@ -2,4 +2,5 @@ mod LeadingTerms
 mod Ordered
 mod Due
 mod LeadingBack
+mod Reducing
 mod Running

@@ -1,28 +1,30 @@
 -- Equations that ascend: their main variables and degrees.
-use Rattle.std.specs.Prelude.{◌≡◌, ◌≢◌, ◌⊎◌, ◌<◌, ◌≤◌, ℕ, ◌+◌, List, [], ◌∷◌, length, refl}
+use Rattle.std.specs.Prelude.{◌≡◌, ◌≢◌, ◌⊎◌, ◌<◌, ◌≤◌, ℕ, ◌+◌, List, [], ◌∷◌, refl}
 use mathlib.Core.Logic.{inl, inr}
 use Rattle.std.proofs.Common.{arith, subst, sym, ◌∙◌, ap}
 use Rattle.std.proofs.lemmas.Bool.{cases_order}
+use Rattle.std.specs.List.{AllByRecursion}
 use Rattle.std.specs.Ordering.{ordering_then, int_cmp}
 use Rattle.std.specs.declared.cmp.Ordering.{Ordering}
 use Rattle.std.specs.declared.cmp.Ordering.TheVariants.{Less, Equal, Greater}
 use Rattle.std.specs.declared.option.Option.{Option}
 use Rattle.std.specs.declared.option.Option.TheVariants.{None, Some}
-use Rattle.monomial.specs.Monomials.{exponent, top, monomial_cmp, IsPowers, IsLower}
+use Rattle.monomial.specs.Monomials.{exponent, top, monomial_cmp, IsMonomial, IsPowers, IsLower}
 use Rattle.monomial.proofs.Greatest.{top-greatest}
 use Rattle.monomial.proofs.Lower.{IsLower-from_cmp}
-use Rattle.monomial.proofs.Total.{monomial_cmp-IsAntisymmetric}
+use Rattle.monomial.proofs.Total.{monomial_cmp-IsAntisymmetric, monomial_cmp-IsTotalOrder}
 use Rattle.sparse_poly.specs.declared.Term.{Term}
 use Rattle.sparse_poly.specs.Order.{poly_cmp}
 use Rattle.sparse_poly.specs.Contributions.{IsPoly}
 use Rattle.sparse_poly.specs.Reads.{degree_in, main_variable}
+use Rattle.sparse_poly.proofs.Descending.{all_map}
 use Rattle.sparse_poly.proofs.Ordered.{main_variable-leading}
-use Rattle.case_rules.specs.Cases.{CaseState, poly, polys, count}
-use Rattle.case_rules.specs.Rules.{None_has, IsLeast, IsGreatest, HasMain, IsPaired, IsPivot, IsOtherMain}
+use Rattle.case_rules.specs.Cases.{CaseState, poly, count}
+use Rattle.case_rules.specs.Rules.{None_has, IsLinearIn, IsOtherWith, IsLinearAt, HasMain, IsPaired, IsOtherMain}
 use Rattle.case_rules.proofs.EndsBelong.{below_at}
 use Rattle.case_rules.proofs.Regular.{polys_at, polys_length}
-use Rattle.case_split.specs.Found.{AreInOrder, HaveMain, IsPair, IsFirstWith}
-use Rattle.case_split.proofs.LeadingTerms.{top_exponent, leading_degree_in}
+use Rattle.case_split.specs.Found.{None_below, AreInOrder, HaveMain, IsPair, IsFirstWith}
+use Rattle.case_split.proofs.LeadingTerms.{alone, lower_zero, linear_leading, linear_alone, top_exponent, leading_degree_in}
 
 lower_variable : (a b : List (ℕ × ℕ)) (v w : ℕ) → IsPowers a → IsPowers b → top a ≡ Some v → top b ≡ Some w → IsLower a b → v ≤ w
 lower_variable a b v w h i e f l = each (cases_order v w)
@@ -85,6 +87,30 @@ degree_rises (t ∷ ts) (u ∷ us) v h i o e f = each (leading_order t ts u us o
     each (inl l) = own (top_exponent t.monomial u.monomial v i.monomials.0.powers second (IsLower-from_cmp t.monomial u.monomial h.monomials.0.powers i.monomials.0.powers l))
     each (inr same) = own (let x = ap (λ m. exponent m v) same in omega (arith, x))
 
+-- what is below a polynomial that is linear in its main variable has not this variable, or is linear in it as well
+module _ (v : ℕ) where
+  falls_below : (m : List (ℕ × ℕ)) (ts : List Term) → monomial_cmp m (alone v) ≡ Less → AllByRecursion (λ (u : Term). monomial_cmp u.monomial m ≡ Less) ts → AllByRecursion (λ (u : Term). monomial_cmp u.monomial (alone v) ≡ Less) ts
+  falls_below m ts l h = all_map (λ (u : Term). monomial_cmp u.monomial m ≡ Less) (λ (u : Term). monomial_cmp u.monomial (alone v) ≡ Less) ts (λ u k. monomial_cmp-IsTotalOrder.trans u.monomial m (alone v) k l) h
+
+  absent : (ts : List Term) → AllByRecursion (λ (u : Term). IsMonomial u.monomial) ts → AllByRecursion (λ (u : Term). monomial_cmp u.monomial (alone v) ≡ Less) ts → degree_in v ts ≡ 0
+  absent [] h l = refl
+  absent (u ∷ us) h l = let first = lower_zero u.monomial v h.0.powers l.0 in let rest = absent us h.1 l.1 in omega (arith, first, rest)
+
+  pub linear_before : (p q : List Term) → IsPoly p → IsPoly q → poly_cmp p q ≡ Less → IsLinearIn q v → 0 < degree_in v p → IsLinearIn p v
+  linear_before [] q h i o l d = absurd (omega (arith, d))
+  linear_before (t ∷ ts) [] h i o l d = absurd (no_main v l.main)
+  linear_before (t ∷ ts) (u ∷ us) h i o l d = each (leading_order t ts u us o)
+    where
+      own : u.monomial ≡ alone v
+      own = linear_alone u us v i l
+
+      each : (monomial_cmp t.monomial u.monomial ≡ Less) ⊎ (t.monomial ≡ u.monomial) → IsLinearIn (t ∷ ts) v
+      each (inr same) = linear_leading t ts v h (same ∙ own)
+      each (inl k) =
+          let low : monomial_cmp t.monomial (alone v) ≡ Less = subst (λ m. monomial_cmp t.monomial m ≡ Less) own k in
+          let none = absent (t ∷ ts) h.monomials (low, falls_below t.monomial ts low h.falling.0) in
+          absurd (omega (arith, d, none))
+
 Some_injective : (v w : ℕ) → Some v ≡ Some w → v ≡ w
 Some_injective v w e = cc e
 
@@ -112,6 +138,16 @@ module _ (c : CaseState) (s : AreInOrder c) where
 
   later_degree : (i j v : ℕ) → i < j → HasMain c v i → HasMain c v j → degree_in v (poly c i) ≤ degree_in v (poly c j)
   later_degree i j v k a b = degree_rises (poly c i) (poly c j) v (poly_at i a.place) (poly_at j b.place) (below_at [] c.equations i j s.ascending.ascending k b.place) a.main b.main
+
+  -- an equation before one that is linear, where none before it is due by Linear, does not contain its variable
+  pub none_before : (p q v : ℕ) → p < count c → IsLinearIn (poly c p) v → None_below (IsLinearAt c) p → q < p → IsOtherWith c p v q → ⊥
+  none_before p q v l h n k x = n q k (record {
+    place = x.place;
+    v = v;
+    linear = linear_before v (poly c q) (poly c p) (poly_at q x.place) (poly_at p l) (below_at [] c.equations q p s.ascending.ascending k l) h x.contains;
+    q = p;
+    other = record { place = l; other = λ e. x.other (sym e); contains = (let d = h.degree in omega (arith, d)) };
+  })
 
   some_main : (o : Option ℕ) → o ≢ None → (v : ℕ) × (o ≡ Some v)
   some_main None n = absurd (n refl)

@@ -1,8 +1,7 @@
 -- Steps of the strategy's run, and its ends.
 use Rattle.std.specs.Prelude.{◌≡◌, ◌≢◌, ◌<◌, ◌≤◌, ℕ, ◌+◌, true, List, [], ◌++◌, length, ◌∷◌, refl}
 use Rattle.std.proofs.Common.{arith, subst, sym, ◌∙◌, ap, length-append}
-use Rattle.std.specs.declared.option.Option.{Option}
-use Rattle.std.specs.declared.option.Option.TheVariants.{None, Some}
+use Rattle.std.specs.declared.option.Option.TheVariants.{Some}
 use Rattle.sparse_poly.specs.declared.Term.{Term}
 use Rattle.sparse_poly.specs.declared.PolyFault.{PolyFault}
 use Rattle.sparse_poly.specs.declared.PolyFault.TheVariants.{Degree, Heavy, OutOfMemory}
@@ -10,7 +9,7 @@ use Rattle.sparse_poly.specs.Contributions.{IsFault}
 use Rattle.sparse_poly.specs.Reads.{main_variable}
 use Rattle.pseudo_rem.specs.declared.remainders.Step.{Step}
 use Rattle.pseudo_rem.specs.Remainders.{rest_of}
-use Rattle.pseudo_rem.specs.Steps.{tail_contributions, IsStepFault}
+use Rattle.pseudo_rem.specs.Steps.{tail_contributions}
 use Rattle.derive_lines.specs.declared.parts.Decision.{Decision}
 use Rattle.derive_lines.specs.declared.parts.Item.{Item}
 use Rattle.derive_lines.specs.declared.parts.Item.TheVariants as item
@@ -19,7 +18,7 @@ use Rattle.derive_lines.specs.Refuting.{Refutes}
 use Rattle.refute_cert.specs.Parts.{RefutationParts}
 use Rattle.refute_cert.specs.Cone.{IsCone}
 use Rattle.leaf_cert.specs.Parts.{LeafParts}
-use Rattle.leaf_cert.specs.Leaves.{GoodLeaf, IsLeaf, EndChecks}
+use Rattle.leaf_cert.specs.Leaves.{GoodLeaf, IsLeaf}
 use Rattle.leaf_cert.specs.declared.ends.LeafEnd.{LeafEnd}
 use Rattle.leaf_cert.specs.declared.ends.LeafEnd.TheVariants as leaf_end
 use Rattle.leaf_cert.specs.declared.ends.OpenCause.{OpenCause}
@@ -29,7 +28,7 @@ use Rattle.leaf_cert.specs.declared.ends.StepKind.TheVariants as kind
 use Rattle.case_rules.specs.declared.moves.Move.{Move}
 use Rattle.case_rules.specs.declared.moves.Move.TheVariants as move_
 use Rattle.case_rules.specs.declared.outcome.Outcome.TheVariants as outcome
-use Rattle.case_rules.specs.Cases.{CaseState, known, poly, polys, equation}
+use Rattle.case_rules.specs.Cases.{CaseState, known, poly, polys}
 use Rattle.case_rules.specs.Branches.{IsReduced, IsBranchFault, IsTailRefused}
 use Rattle.case_rules.specs.Rules.{None_has, IsAlive, IsMove, IsSettled, HasZeroRemainder, IsRefutedAt, condition}
 use Rattle.case_rules.specs.Belonging.{Belongs}

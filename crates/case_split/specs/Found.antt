@@ -1,5 +1,5 @@
 -- What the rules find.
-use Rattle.std.specs.Prelude.{◌≡◌, ◌≢◌, ◌≤◌, ◌<◌, ℕ, List, All}
+use Rattle.std.specs.Prelude.{◌≡◌, ◌≢◌, ◌≤◌, ◌<◌, ℕ, ◌+◌, List, All}
 use Rattle.std.specs.declared.option.Option.{Option}
 use Rattle.std.specs.declared.option.Option.TheVariants.{None, Some}
 use Rattle.sparse_poly.specs.declared.Term.{Term}
@@ -16,6 +16,24 @@ use Rattle.case_rules.specs.declared.moves.Move.TheVariants.{Reduce, Split}
 use Rattle.case_rules.specs.Cases.{CaseState, known, poly, polys, count}
 use Rattle.case_rules.specs.Kept.{AreAscending}
 use Rattle.case_rules.specs.Rules.{IsLeast, IsGreatest, HasMain, IsPaired, IsPivot, IsOtherMain, IsInitialSplit}
+
+-- nothing below n has a property
+abbrev pub None_below : (ℕ → Type 0) → ℕ → Type 0
+None_below P n = (i : ℕ) → i < n → ¬ P i
+
+-- only what stands at this place may have a property
+abbrev pub IsOnlyAt : (ℕ → Type 0) → Option ℕ → Type 0
+IsOnlyAt P at = (i : ℕ) → P i → at ≡ Some i
+
+-- an equation stands at this place, or there is no place
+abbrev pub IsSomePlace : CaseState → Option ℕ → Type 0
+IsSomePlace c None = Unit {0}
+IsSomePlace c (Some i) = i < count c
+
+-- of the first n places, m are the first that are left where place q is taken out
+pub record IsLeftOf (n q m : ℕ) : Type 0 where
+  pub before : (i : ℕ) → i < m → i < q → i < n
+  pub after : (i : ℕ) → i < m → q ≤ i → i + 1 < n
 
 -- a polynomial is a variable
 abbrev pub IsVariable : List Term → Type 0

@@ -2,10 +2,11 @@
 ghost use Rattle.std.specs.Prelude.{◌≤◌, IfOk};
 ghost use Rattle.case_rules.specs.Belonging.{Belongs};
 ghost use Rattle.case_rules.specs.Ends.{IsEnd};
+ghost use Rattle.case_split.specs.Found.{IsLeftOf};
 
 use crate::conditions::settled;
 use crate::ends::{dead, leaf, split, stopped_reduction};
-use crate::rules::{Operands, dead_at, due_move};
+use crate::rules::{Operands, dead_after, dead_at, done_after, due_move};
 use case_rules::{Move, Outcome, belongs_law, move_law};
 use case_state::Case;
 use leaf_cert::{Leaf, LeafEnd, OpenCause};
@@ -30,25 +31,36 @@ pub fn run_case(
     belongs_law();
     move_law();
     let mut now = case.copy()?;
+    if let Some(i) = dead_at(&now) {
+        return dead(alloc, root, &now, i);
+    }
+    let mut done = 0;
     'moves: loop {
-        if let Some(i) = dead_at(&now) {
-            return dead(alloc, root, &now, i);
-        }
-        let Some(due) = due_move(alloc, &now)? else {
+        let Some(due) = due_move(alloc, &now, &mut done)? else {
             return settled(alloc, root, &now);
         };
         if now.moves() >= budget {
             let leaf = leaf(alloc, root, &now, LeafEnd::Open(OpenCause::Budget))?;
             return Ok(Outcome::Leaf(leaf));
         }
-        match due {
+        let operands = match due {
             Move::Split { by, tail } => return split(alloc, root, &now, by, tail),
-            Move::Reduce { q, p, v } => {
-                if let Err(fault) = now.reduce(q, p, v) {
-                    let operands = Operands { q, p, var: v };
-                    return stopped_reduction(alloc, root, &now, operands, fault);
-                }
-            }
+            Move::Reduce { q, p, v } => Operands { q, p, var: v },
+        };
+        let at = match now.reduce_at(operands.q, operands.p, operands.var) {
+            Ok(at) => at,
+            Err(fault) => return stopped_reduction(alloc, root, &now, operands, fault),
+        };
+        if let Some(i) = dead_after(&now, at) {
+            return dead(alloc, root, &now, i);
         }
+        done = done_after(&now, left_of(done, operands.q), at);
     }
+}
+
+// How many of the first equations are left where equation q is taken out.
+fn left_of(first: u64, q: u64) -> u64
+    ensures { IsLeftOf first q result }
+{
+    if q < first { first - 1 } else { first }
 }

@@ -1,18 +1,21 @@
 -- The branches of a case, by their parts.
 use Rattle.std.specs.Prelude.{◌≡◌, ℕ, ◌+◌, true, false, List, [], ◌∷◌, ◌++◌, length, remove}
 use Rattle.std.proofs.Common.{sym, ◌∙◌, ap, subst, append_assoc, length-append}
+use Rattle.std.specs.declared.option.Option.{Option}
 use Rattle.sparse_poly.specs.declared.Term.{Term}
 use Rattle.pseudo_rem.specs.declared.steps.Reduction.{Reduction}
+use Rattle.pseudo_rem.specs.Steps.{IsReduction}
 use Rattle.derive_lines.specs.declared.parts.Decision.{Decision}
 use Rattle.derive_lines.specs.declared.parts.Line.{Line}
 use Rattle.derive_lines.specs.Lines.{conditions}
 use Rattle.derive_lines.specs.Refuting.{decided}
 use Rattle.case_rules.specs.declared.equation.Equation.{Equation}
-use Rattle.case_rules.specs.Cases.{CaseState, known, equation}
+use Rattle.case_rules.specs.Cases.{CaseState, known, equation, poly}
 use Rattle.case_rules.specs.Kept.{added, all_added}
 use Rattle.case_rules.specs.Clearings.{made, IsClearing, AreCleared, AreStripped}
 use Rattle.case_rules.specs.Branches.{step_line, zero_equation, IsNonzeroBranch, IsTailOf, IsTailBranch}
-use Rattle.case_state.specs.Appending.{IsClearedBy, AreClearedBy, AreStrippedBy}
+use Rattle.case_state.specs.Appending.{IsReducedBy, IsClearedBy, AreClearedBy, AreStrippedBy}
+use Rattle.case_state.specs.Places.{HasPlace, IsReducedAt}
 use Rattle.case_rules.proofs.Items.{conditions_zero, conditions_nonzero}
 
 -- the known conditions of a branch
@@ -82,3 +85,17 @@ tail_made c by i step zero before r k line next units now rest es0 es1 es2 es3 d
 
     equations : es3 ≡ added rest (added (zero_equation c by) (remove c.equations i))
     equations = e3 ∙ ap (added rest) (e2 ∙ ap (λ y. added y es1) z ∙ ap (added (zero_equation c by)) (e1 ∙ ap (λ es. remove es i) e0))
+
+pub reduced_made : (c : CaseState) (q p v : ℕ) (at : Option ℕ) (ds : List Decision) (units : List (List Term)) (es0 es1 es2 : List Equation) (before now : List Line) (rest : Equation) (m : ℕ) → ds ≡ c.decisions → units ≡ known c → es0 ≡ c.equations → before ≡ c.lines → IsReducedBy units es0 q p v before now rest → es1 ≡ remove c.equations q → es2 ≡ added rest es1 → HasPlace rest.poly es1 at → m ≡ c.moves + 1 → IsReducedAt c q p v at (record { decisions = ds; equations = es2; lines = now; moves = m })
+reduced_made c q p v at ds units es0 es1 es2 before now rest m d u e0 b r e1 e2 h n = let s : IsReducedBy units c.equations q p v before now rest = subst (λ es. IsReducedBy units es q p v before now rest) e0 r in record {
+  reduced = record {
+    step = s.step;
+    reduction = subst (λ ns. IsReduction ns (poly c q) (poly c p) v s.step) u s.reduction;
+    lines = s.lines;
+    rest = rest;
+    clearing = subst (λ ns. IsClearing ns (length c.lines + 1) (made s.step.r (length c.lines)) s.lines rest) u (subst (λ ls. IsClearing units (length ls + 1) (made s.step.r (length ls)) s.lines rest) b s.clearing);
+    is = same_case ds c.decisions es2 (added rest (remove c.equations q)) now (c.lines ++ step_line (equation c q).item (equation c p).item s.step ∷ s.lines) m (c.moves + 1) d
+        (e2 ∙ ap (added rest) e1) (s.is ∙ ap (λ ls. ls ++ step_line (equation c q).item (equation c p).item s.step ∷ s.lines) b) n;
+  };
+  place = subst (λ es. HasPlace rest.poly es at) e1 h;
+}

@@ -1,19 +1,27 @@
 -- Where an equation is placed.
-use Rattle.std.specs.Prelude.{◌≡◌, ◌≢◌, ℕ, zero, suc, ◌+◌, ◌<◌, ◌≤◌, List, [], ◌∷◌, ◌++◌, length, insert, take, drop, slice_index_or, slice_set, refl}
-use Rattle.std.proofs.Common.{arith, sym, ◌∙◌, ap, append_assoc, drop-cons}
+use Rattle.std.specs.Prelude.{◌≡◌, ◌≢◌, ◌⊎◌, ℕ, zero, suc, ◌+◌, ◌<◌, ◌≤◌, List, [], ◌∷◌, ◌++◌, length, insert, take, drop, slice_index_or, slice_set, MatchResult, refl}
+use mathlib.Core.Logic.{inl, inr}
+use Rattle.std.proofs.Common.{arith, sym, subst, ◌∙◌, ap, append_assoc, drop-cons}
+use Rattle.std.proofs.lemmas.Bool.{cases_order}
+use Rattle.std.specs.List.Sorted.{IsStrictlySortedBy, IsNonDecreasingBy, IsPartitionPoint, IsBinarySearchResult, IsSearchInRange}
+use Rattle.std.specs.Ordering.{ordering_index}
 use Rattle.std.proofs.Math.Numerals.{add-one}
 use Rattle.std.proofs.Math.Seq.{take-suc}
 use Rattle.std.specs.Cmp.{tied_itself}
 use Rattle.std.specs.declared.cmp.Ordering.{Ordering}
 use Rattle.std.specs.declared.cmp.Ordering.TheVariants.{Less, Equal, Greater}
+use Rattle.std.specs.declared.result.Result.{Result}
+use Rattle.std.specs.declared.result.Result.TheVariants.{Ok, Err}
+use Rattle.std.specs.declared.option.Option.TheVariants.{None}
 use Rattle.sparse_poly.specs.declared.Term.{Term}
 use Rattle.sparse_poly.specs.Order.{poly_cmp}
 use Rattle.sparse_poly.specs.OrderLaws.{poly_cmp-IsAntisymmetric, poly_cmp-IsTotalOrder}
 use Rattle.derive_lines.specs.declared.parts.Item.{Item}
 use Rattle.case_rules.specs.declared.equation.Equation.{Equation}
-use Rattle.case_rules.specs.Cases.{equation_at}
+use Rattle.case_rules.specs.Cases.{equation_at, no_equation, polys_of}
 use Rattle.case_rules.specs.Kept.{older, placed, by_place, added, added_if, item_if, item_of}
-use Rattle.case_state.specs.Places.{StandsAt, GoesTo}
+use Rattle.case_rules.proofs.EndsBelong.{below_at}
+use Rattle.case_state.specs.Places.{Ascend, StandsAt, GoesTo, HasPlace}
 
 -- lists from a place on
 drop_one : {X : Type 0} → (xs : List X) (k : ℕ) (d : X) → k < length xs → drop k xs ≡ slice_index_or xs k d ∷ drop (k + 1) xs
@@ -90,6 +98,66 @@ past_end p es i l h = record {
     none : drop i es ≡ []
     none = drop_end es i (omega (arith, l))
 
+-- what a binary search answers among equations that ascend
+any_default : {X : Type 0} → (xs : List X) (i : ℕ) (d e : X) → i < length xs → slice_index_or xs i d ≡ slice_index_or xs i e
+any_default [] i d e h = absurd (omega (arith, h))
+any_default (x ∷ xs) zero d e h = refl
+any_default (x ∷ xs) (suc i) d e h = any_default xs i d e (omega (arith, h))
+
+past_all : (p : List Term) (es : List Equation) (i : ℕ) → i ≤ length es → ((j : ℕ) → j < i → poly_cmp (equation_at es j).poly p ≡ Less) → IsPast p es i
+past_all p es zero l h = past_start p es
+past_all p es (suc i) l h =
+    let at : i < length es = omega (arith, l) in
+    let rest : IsPast p es i = past_all p es i (omega (arith, l)) (λ j k. h j (omega (arith, k))) in
+    subst (IsPast p es) (add-one i) (past_more p es i (equation_at es i) at (any_default es i _ _ at) (h i (omega arith)) rest)
+
+-- the order to a polynomial does not fall along the equations
+rises : (p q r : List Term) → poly_cmp p q ≡ Less → ordering_index (poly_cmp p r) ≤ ordering_index (poly_cmp q r)
+rises p q r l = each (poly_cmp q r) refl
+  where
+    within : (o : Ordering) → ordering_index o ≤ 2
+    within Less = omega arith
+    within Equal = omega arith
+    within Greater = omega arith
+
+    each : (o : Ordering) → poly_cmp q r ≡ o → ordering_index (poly_cmp p r) ≤ ordering_index o
+    each Less e = let same = ap ordering_index (poly_cmp-IsTotalOrder.trans p q r l e) in omega (arith, same)
+    each Equal e = let same = ap ordering_index (ap (poly_cmp p) (sym (poly_cmp-IsAntisymmetric q r e)) ∙ l) in omega (arith, same)
+    each Greater e = within (poly_cmp p r)
+
+order_rises : (p : List Term) (es : List Equation) → Ascend es → IsNonDecreasingBy (λ (e : Equation). ordering_index (poly_cmp e.poly p)) es
+order_rises p es a i j d l k = each (cases_order i j)
+  where
+    each : (i ≡ j) ⊎ ((i < j) ⊎ (j < i)) → ordering_index (poly_cmp (slice_index_or es i d).poly p) ≤ ordering_index (poly_cmp (slice_index_or es j d).poly p)
+    each (inl x) = let same = ap (λ i. ordering_index (poly_cmp (slice_index_or es i d).poly p)) x in omega (arith, same)
+    each (inr (inl x)) =
+        let first = ap (λ (e : Equation). ordering_index (poly_cmp e.poly p)) (any_default es i d no_equation (omega (arith, x, k))) in
+        let second = ap (λ (e : Equation). ordering_index (poly_cmp e.poly p)) (any_default es j d no_equation k) in
+        let both = rises (equation_at es i).poly (equation_at es j).poly p (below_at [] es i j a x k) in
+        omega (arith, first, second, both)
+    each (inr (inr x)) = absurd (omega (arith, l, x))
+
+pub found_place : (p : List Term) (es : List Equation) (r : Result ℕ ℕ) → Ascend es → IsSearchInRange r (length es) → IsBinarySearchResult (λ (e : Equation). poly_cmp e.poly p) es r → MatchResult r (StandsAt p es) (GoesTo p es)
+found_place p es (Ok i) a l h = past_equal p es i (equation_at es i) l (any_default es i _ _ l) (h no_equation) (past_all p es i (omega (arith, l)) before)
+  where
+    same : (equation_at es i).poly ≡ p
+    same = poly_cmp-IsAntisymmetric (equation_at es i).poly p (h no_equation)
+
+    before : (j : ℕ) → j < i → poly_cmp (equation_at es j).poly p ≡ Less
+    before j k = ap (poly_cmp (equation_at es j).poly) (sym same) ∙ below_at [] es j i a k l
+found_place p es (Err i) a l h = each (cases_order i (length es))
+  where
+    parts : IsPartitionPoint (λ (e : Equation). poly_cmp e.poly p ≡ Less) (λ (e : Equation). poly_cmp e.poly p ≡ Greater) es i
+    parts = h (order_rises p es a)
+
+    past : IsPast p es i
+    past = past_all p es i l (λ j k. parts.0 j no_equation (omega arith) k)
+
+    each : (i ≡ length es) ⊎ ((i < length es) ⊎ (length es < i)) → GoesTo p es i
+    each (inl x) = past_end p es i x past
+    each (inr (inl x)) = past_greater p es i (equation_at es i) x (any_default es i _ _ x) (parts.1 i no_equation (omega arith) x) past
+    each (inr (inr x)) = absurd (omega (arith, l, x))
+
 -- what is added, where the polynomial is not zero
 pub added_placed : (e : Equation) (es : List Equation) → e.poly ≢ [] → added e es ≡ placed e es
 added_placed e es n = each e.poly refl
@@ -118,3 +186,18 @@ item_passed p other e es n = each (poly_cmp e.poly p) refl
     each Less g = refl
     each Equal g = absurd (n (poly_cmp-IsAntisymmetric e.poly p g))
     each Greater g = refl
+
+pub ascend_none : Ascend []
+unfolding IsStrictlySortedBy
+ascend_none = tt
+
+-- an equation that is there keeps its polynomial
+same_polys : (es : List Equation) (i : ℕ) (e : Equation) → i < length es → e.poly ≡ (equation_at es i).poly → polys_of (slice_set es i e) ≡ polys_of es
+same_polys [] i e l h = absurd (omega (arith, l))
+same_polys (x ∷ xs) zero e l h = ap (λ p. p ∷ polys_of xs) h
+same_polys (x ∷ xs) (suc i) e l h = ap (λ ps. x.poly ∷ ps) (same_polys xs i e (omega (arith, l)) h)
+
+pub no_new_place : (p : List Term) (es : List Equation) (i : ℕ) → p ≢ [] → StandsAt p es i → HasPlace p es None
+no_new_place p es i n s e h =
+    ap polys_of (added_there e es i (λ z. n (sym h ∙ z)) (subst (λ q. StandsAt q es i) (sym h) s))
+    ∙ same_polys es i (record { poly = (equation_at es i).poly; item = older (equation_at es i).item e.item }) s.within refl

@@ -1,9 +1,20 @@
 -- Where a polynomial stands among equations, or goes.
-use Rattle.std.specs.Prelude.{◌≡◌, ℕ, ◌<◌, ◌≤◌, List, length, insert, slice_set}
+use Rattle.std.specs.Prelude.{◌≡◌, ℕ, ◌<◌, ◌≤◌, List, length, insert, remove, slice_set}
+use Rattle.std.specs.List.Sorted.{IsStrictlySortedBy}
+use Rattle.std.specs.declared.option.Option.{Option}
+use Rattle.std.specs.declared.option.Option.TheVariants.{None, Some}
 use Rattle.sparse_poly.specs.declared.Term.{Term}
+use Rattle.sparse_poly.specs.Order.{poly_cmp}
+use Rattle.derive_lines.specs.declared.parts.Decision.{Decision}
+use Rattle.derive_lines.specs.Lines.{conditions}
 use Rattle.case_rules.specs.declared.equation.Equation.{Equation}
-use Rattle.case_rules.specs.Cases.{equation_at}
-use Rattle.case_rules.specs.Kept.{older, placed}
+use Rattle.case_rules.specs.Cases.{CaseState, equation_at, polys_of}
+use Rattle.case_rules.specs.Kept.{older, placed, added}
+use Rattle.case_rules.specs.Branches.{IsReduced}
+
+-- the polynomials of equations ascend strictly
+abbrev pub Ascend : List Equation → Type 0
+Ascend es = IsStrictlySortedBy poly_cmp (polys_of es)
 
 -- it stands at place i: the equation there keeps the older item
 pub record StandsAt (p : List Term) (es : List Equation) (i : ℕ) : Type 0 where
@@ -14,3 +25,18 @@ pub record StandsAt (p : List Term) (es : List Equation) (i : ℕ) : Type 0 wher
 pub record GoesTo (p : List Term) (es : List Equation) (i : ℕ) : Type 0 where
   pub within : i ≤ length es
   pub inserted : (e : Equation) → e.poly ≡ p → placed e es ≡ insert es i e
+
+-- an equation with this polynomial, once it is added, is new at a place, or there is no new polynomial
+abbrev pub HasPlace : List Term → List Equation → Option ℕ → Type 0
+HasPlace p es None = (e : Equation) → e.poly ≡ p → polys_of (added e es) ≡ polys_of es
+HasPlace p es (Some k) = (k ≤ length es) × ((e : Equation) → e.poly ≡ p → added e es ≡ insert es k e)
+
+-- equation q is reduced by equation p in v, and what is left goes to this place
+pub record IsReducedAt (c : CaseState) (q p v : ℕ) (at : Option ℕ) (c' : CaseState) : Type 0 where
+  pub reduced : IsReduced c q p v c'
+  pub place : HasPlace reduced.rest.poly (remove c.equations q) at
+
+-- what a case keeps: the known conditions are those of its decisions, and its equations ascend
+pub record IsKept (decisions : List Decision) (equations : List Equation) (units : List (List Term)) : Type 0 where
+  pub known : units ≡ conditions decisions
+  pub ascending : Ascend equations

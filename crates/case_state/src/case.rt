@@ -28,15 +28,14 @@ pub struct Case {
 }
 
 impl Model for Case {
-    ghost use Rattle.std.specs.Prelude.{◌≡◌};
-    ghost use Rattle.derive_lines.specs.Lines.{conditions};
     ghost use Rattle.case_rules.specs.Cases.{CaseState};
+    ghost use Rattle.case_state.specs.Places.{IsKept};
 
     ghost Value = { CaseState };
 
     ghost view = { λ c. record { decisions = c.decisions.items; equations = c.equations.items; lines = c.lines.items; moves = c.moves } };
 
-    ghost invariant = { λ c. c.known.items ≡ conditions c.decisions.items };
+    ghost invariant = { λ c. IsKept c.decisions.items c.equations.items c.known.items };
 }
 
 impl Case {
@@ -45,6 +44,7 @@ impl Case {
     ghost use Rattle.case_rules.specs.Cases.{root_case, known, equation, poly, count};
     ghost use Rattle.case_rules.specs.Branches.{zero_equation, IsReduced, IsNonzeroBranch, IsZeroBranch, IsTailOf, IsTailBranch, IsBranch, IsBranchFault, IsTail, CanReduce, CanSplit};
     ghost use Rattle.case_rules.specs.Belonging.{IsRootList};
+    ghost use Rattle.case_state.specs.Places.{IsReducedAt};
 
     /// The root case: the root equations in their order, no decision, no line and no move. It fails only where no memory is left.
     pub fn root(alloc: Global, root: &[Poly]) -> Result<Case, AllocError>
@@ -83,6 +83,19 @@ impl Case {
         ensures answer { MatchResult result (λ _. IsReduced self.old q p var self.new) (IsStepFault (poly self.old q) (poly self.old p) var) }
         ensures unchanged { OnErr result (self.new ≡ self.old) }
     {
+        match self.reduce_at(q, p, var) {
+            Ok(_) => Ok(()),
+            Err(fault) => Err(fault),
+        }
+    }
+
+    /// The same, with the place of what is left, where it is a new equation.
+    pub fn reduce_at(&mut self, q: u64, p: u64, var: u32) -> Result<Option<u64>, PolyFault>
+        requires can { CanReduce self.old q p var }
+        requires room { self.old.moves + 1 < 2 ^ 32 }
+        ensures answer { MatchResult result (λ at. IsReducedAt self.old q p var at self.new) (IsStepFault (poly self.old q) (poly self.old p) var) }
+        ensures unchanged { OnErr result (self.new ≡ self.old) }
+    {
         let alloc = *self.lines.allocator();
         let before = self.lines.len();
         let reduced = reduced(
@@ -97,9 +110,9 @@ impl Case {
         match reduced {
             Ok(rest) => {
                 let _reduced = self.equations.remove(q as usize);
-                add_in_room(&mut self.equations, rest);
+                let place = add_in_room(&mut self.equations, rest);
                 self.moves += 1;
-                Ok(())
+                Ok(place)
             }
             Err(fault) => {
                 self.lines.truncate(before);

@@ -2,28 +2,20 @@
 ghost use Rattle.std.specs.Prelude.{◌≡◌, ◌<◌, [], IfOk, MatchResult, length, slice_set, vec_len, vec_capacity};
 ghost use Rattle.case_rules.specs.Cases.{equation_at};
 ghost use Rattle.case_rules.specs.Kept.{older, added, all_added, item_of};
-ghost use Rattle.case_state.specs.Places.{StandsAt, GoesTo};
+ghost use Rattle.case_state.specs.Places.{Ascend, StandsAt, GoesTo, HasPlace};
 
 use case_rules::Equation;
 use derive_lines::{Item, is_same};
 use sparse_poly::Poly;
 use std::alloc::{AllocError, Global};
-use std::cmp::Ordering;
 use std::collections::VecDeque;
 
 // Where a polynomial stands among equations, or else where it goes.
 fn place_of(equations: &[Equation], poly: &Poly) -> Result<usize, usize>
+    requires { Ascend equations.now }
     ensures { MatchResult result (StandsAt poly.now equations.now) (GoesTo poly.now equations.now) }
 {
-    let mut i = 0;
-    'places: while i < equations.len() {
-        match equations[i].poly.order(poly) {
-            Ordering::Less => i += 1,
-            Ordering::Equal => return Ok(i),
-            Ordering::Greater => return Err(i),
-        }
-    }
-    Err(i)
+    equations.binary_search_by(|equation| equation.poly.order(poly))
 }
 
 // Of two items the older one.
@@ -49,30 +41,38 @@ fn keep_older(equations: &mut [Equation], i: usize, item: Item)
     equations[i].item = older(equations[i].item, item);
 }
 
-/// Adds an equation at its place in the order. Zero is dropped, and of two equations with one polynomial the older item stays.
-pub fn add_in_room(equations: &mut Vec<Equation>, equation: Equation)
-    requires { vec_len equations.old < vec_capacity equations.old }
-    ensures { equations.new.items ≡ added equation equations.old.items }
+/// Adds an equation at its place in the order, and answers the place of a polynomial that is new. Zero is dropped, and of two equations with
+/// one polynomial the older item stays.
+pub fn add_in_room(equations: &mut Vec<Equation>, equation: Equation) -> Option<u64>
+    requires room { vec_len equations.old < vec_capacity equations.old }
+    requires ascending { Ascend equations.old.items }
+    ensures added { equations.new.items ≡ added equation equations.old.items }
+    ensures place { HasPlace equation.poly equations.old.items result }
 {
     if equation.poly.is_zero() {
-        return;
+        return None;
     }
     match place_of(equations, &equation.poly) {
-        Ok(i) => keep_older(equations, i, equation.item),
+        Ok(i) => {
+            keep_older(equations, i, equation.item);
+            None
+        }
         Err(i) => {
             let Ok(()) = equations.insert(i, equation) else {
                 unreachable!()
             };
+            Some(i as u64)
         }
     }
 }
 
 /// The same, where room may be wanting. It fails only where no memory is left.
 pub fn add(equations: &mut Vec<Equation>, equation: Equation) -> Result<(), AllocError>
+    requires { Ascend equations.old.items }
     ensures { IfOk result (λ _. equations.new.items ≡ added equation equations.old.items) }
 {
     equations.reserve(1)?;
-    add_in_room(equations, equation);
+    let _place = add_in_room(equations, equation);
     Ok(())
 }
 

@@ -1,4 +1,4 @@
-use Rattle.std.proofs.Common.{rules, arith, ◌≡◌, ◌<◌, ◌++◌, ◌∷◌, ◌∙◌, [], ap}
+use Rattle.std.proofs.Common.{rules, arith, ◌≡◌, ◌<◌, ◌++◌, ◌∷◌, [], ap}
 use Rattle.std.specs.Prelude.{length, List}
 use Rattle.pseudo_rem.specs.Remainders.{rest_of}
 use Rattle.case_rules.specs.declared.equation.Equation.{Equation}

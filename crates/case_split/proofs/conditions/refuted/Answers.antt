@@ -1,4 +1,4 @@
-use Rattle.std.proofs.Common.{rules, arith, ◌≡◌, ◌≤◌, ◌+◌, ◌-◌, ◌∙◌, ◌++◌, sym, ap, refl}
+use Rattle.std.proofs.Common.{rules, arith, ◌≡◌, ◌-◌, ◌∙◌, ◌++◌, ap, refl}
 use Rattle.std.specs.Prelude.{length, List}
 use Rattle.std.proofs.lemmas.Result.{IfOk-weaker}
 use Rattle.derive_lines.specs.declared.parts.Line.{Line}
@@ -6,7 +6,7 @@ use Rattle.derive_lines.specs.declared.parts.Item.TheVariants as item
 use Rattle.case_rules.specs.Rules.{condition}
 use Rattle.case_rules.specs.Ends.{back_lines}
 use Rattle.case_split.proofs.LeadingBack.{condition_is}
-use Rattle.case_split.proofs.Running.{refuting_lines, some_lines, refutes_by, refutation_by, same_refutes, same_cone}
+use Rattle.case_split.proofs.Running.{some_lines, refutes_by, refutation_by, same_refutes, same_cone}
 use Rattle.case_split.proofs.conditions.refuted.Goals as goal
 
 pub overflow_sub-end : goal.overflow_sub-end

@@ -1,4 +1,4 @@
-use Rattle.std.proofs.Common.{rules, arith, ◌≡◌, ◌<◌, ◌≤◌, ◌∙◌, sym, ap, subst, ℕ}
+use Rattle.std.proofs.Common.{rules, arith, ◌≡◌, ◌<◌, sym, ap, subst}
 use Rattle.sparse_poly.specs.Reads.{HaveMainVariables}
 use Rattle.case_rules.specs.Cases.{polys, known}
 use Rattle.case_rules.specs.Ends as ends

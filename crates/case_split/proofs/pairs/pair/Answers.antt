@@ -1,4 +1,4 @@
-use Rattle.std.proofs.Common.{rules, arith, ◌≡◌, ◌≢◌, ◌-◌, ◌+◌, subst}
+use Rattle.std.proofs.Common.{rules, arith, ◌≢◌, ◌-◌, ◌+◌, subst}
 use Rattle.std.specs.declared.option.Option.TheVariants.{Some}
 use Rattle.sparse_poly.specs.Reads.{main_variable}
 use Rattle.case_rules.specs.Cases.{poly}

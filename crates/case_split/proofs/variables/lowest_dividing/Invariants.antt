@@ -4,8 +4,8 @@ use Rattle.case_split.proofs.variables.lowest_dividing.Given as goal
 
 abbrev pub invariant-powers : goal.invariant-powers
 invariant-powers l = record {
-  within : l.i ≤ length l.leading.monomial;
-  none : None_divides_from l.terms l.leading.monomial l.i;
+  within : l.i ≤ length l.last.monomial;
+  none : None_divides_from l.terms l.last.monomial l.i;
 }
 
 abbrev pub decreases-powers : goal.decreases-powers
