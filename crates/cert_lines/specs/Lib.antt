@@ -1,0 +1,5 @@
+pub mod Bytes
+pub mod Words
+pub mod Forms
+pub mod Fitting
+pub mod LineReading

@@ -1,0 +1,16 @@
+pub mod RightLines
+pub mod Runs
+pub mod Steps
+pub mod Mays
+pub mod Fit
+pub mod Alone
+pub mod Plain
+pub mod Cut
+pub mod Unknowns
+pub mod Living
+pub mod LinesRead
+pub mod Finish
+pub mod LineFaults
+pub mod WrongLines
+pub mod SeenStates
+pub mod OneAnswer
