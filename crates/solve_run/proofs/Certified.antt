@@ -17,9 +17,11 @@ use Rattle.case_history.specs.Replay.{Accepted}
 use Rattle.case_history.specs.JustOne.{MeetsJustOneLeaf}
 use Rattle.case_history.specs.Counts.{leaf_count, open_count}
 use Rattle.cert_text.specs.Sentences.{certificate_text}
+use Rattle.cert_text.specs.Text.{Fits}
+use Rattle.root_input.specs.Streams.{Stream}
+use Rattle.root_input.specs.Inputs.{StatesRoot}
 use Rattle.solve_run.specs.Words.{IsBudgetOf}
-use Rattle.solve_run.specs.Streams.{Stream}
-use Rattle.solve_run.specs.Outcomes.{StatesRoot, IsSearched, Certifies, Counts, Ends, none_open, some_open, by_leaves, by_open_leaves}
+use Rattle.solve_run.specs.Outcomes.{IsSearched, Certifies, Counts, Ends, none_open, some_open, by_leaves, by_open_leaves}
 use Rattle.solve_run.specs.declared.status.Status.{Status}
 
 -- what solves may be said in other words
@@ -31,9 +33,9 @@ pub certified : {E : Type 0} (f : Field E) (words : List (List ℕ)) (source : S
     → ((p : Stated) (x : List E) (qs : List (List Term)) → AllElements f x → AreRootEquations p qs → AllVanish f x qs ↔ Solution f p x)
     → ((x : List E) (unknowns : ℕ) (qs : List (List Term)) (c : Certificate) → AllElements f x → Accepted unknowns qs c → MeetsJustOneLeaf (AllVanish f x qs) (Meets f x) c.entries)
     → IsBudgetOf words budget → StatesRoot source bytes problem root → IsSearched root budget history certificate
-    → leaves ≡ leaf_count certificate.entries → opens ≡ open_count certificate.entries → IsWritten (certificate_text certificate)
+    → leaves ≡ leaf_count certificate.entries → opens ≡ open_count certificate.entries → IsWritten (certificate_text certificate) → Fits certificate
     → Certifies f words source IsWritten leaves opens
-certified f words source IsWritten leaves opens bytes problem root budget history certificate root_law accepted_law is_budget states searched leaves_are opens_are writes = record {
+certified f words source IsWritten leaves opens bytes problem root budget history certificate root_law accepted_law is_budget states searched leaves_are opens_are writes fits = record {
   bytes = bytes;
   problem = problem;
   root = root;
@@ -46,8 +48,9 @@ certified f words source IsWritten leaves opens bytes problem root budget histor
   leaves_are = leaves_are;
   opens_are = opens_are;
   writes = writes;
+  fits = fits;
   covers = λ x elements. in_other_words (AllVanish f x root.equations) (Solution f problem x) (Meets f x) certificate.entries
-      (root_law problem x root.equations elements states.is_root.are_equations) (accepted_law x root.unknowns root.equations certificate elements searched.accepted);
+      (root_law problem x root.equations elements states.has_root.is_root.are_equations) (accepted_law x root.unknowns root.equations certificate elements searched.accepted);
 }
 
 pub counted : {E : Type 0} (f : Field E) (words : List (List ℕ)) (source sink : Stream) (entries : List RawEntry) (status : Status) → Counts entries status

@@ -1,5 +1,5 @@
-pub mod Refusals
 pub mod Apart
+pub mod Ranges
 pub mod Searched
 pub mod Certified
 pub mod Told

@@ -1,19 +1,14 @@
 -- How a run ends: by the first of its stages that refuses (the words, the source, the problem, the root, the search, the writing), or with a certificate.
-use Rattle.std.specs.Prelude.{◌≡◌, ◌≢◌, ◌<◌, ℕ, List}
+use Rattle.std.specs.Prelude.{◌≡◌, ◌<◌, ℕ, List}
 use Rattle.std.specs.Io.KnownBytes.{Appends}
 use Rattle.field_laws.specs.Field.{Field, AllElements}
-use Rattle.braid_io.specs.Causes.{Rose, TookMore, TookUpTo, WrotePart}
+use Rattle.braid_io.specs.Causes.{Rose, WrotePart}
 use Rattle.leaf_cert.specs.Leaves.{Meets}
 use Rattle.leaf_cert.specs.declared.certificate.Certificate.{Certificate}
 use Rattle.leaf_cert.specs.declared.certificate.RawEntry.{RawEntry}
 use Rattle.ring_file.specs.Problems.{Stated}
-use Rattle.ring_file.specs.Reading.{IsProblemOf, IsProblemFault}
-use Rattle.ring_file.specs.declared.problem.ProblemFault.{ProblemFault}
-use Rattle.ring_file.specs.declared.problem.ProblemFault.TheVariants.{OutOfMemory as no_problem_memory}
-use Rattle.root_system.specs.Forms.{RootEquations, max_equations}
-use Rattle.root_system.specs.Root.{IsRootOf, IsRootFault}
+use Rattle.root_system.specs.Forms.{RootEquations}
 use Rattle.root_system.specs.Solution.{Solution}
-use Rattle.root_system.specs.declared.root.RootFault.TheVariants.{TooManyUnknowns as too_many_unknowns, TooManyEquations as too_many_equations}
 use Rattle.case_history.specs.History.{IsComplete}
 use Rattle.case_history.specs.Replay.{Accepted}
 use Rattle.case_history.specs.JustOne.{MeetsJustOneLeaf}
@@ -22,32 +17,21 @@ use Rattle.legal_history.specs.Legal.{IsSerial}
 use Rattle.legal_history.specs.Tree.{AreTreeLeaves}
 use Rattle.case_ledger.specs.Board.{IsCertificate}
 use Rattle.cert_text.specs.Sentences.{certificate_text}
+use Rattle.cert_text.specs.Text.{Fits}
+use Rattle.root_input.specs.Streams.{Stream}
+use Rattle.root_input.specs.Inputs.{StatesRoot, IsInputFault}
+use Rattle.root_input.specs.declared.fault.InputFault.{InputFault}
 use Rattle.solve_run.specs.Words.{IsBudgetOf, IsUsageFault}
-use Rattle.solve_run.specs.Streams.{Stream, ReadsAll, max_problem_bytes}
+use Rattle.solve_run.specs.Statuses.{input_status}
 use Rattle.solve_run.specs.declared.status.Status.{Status}
-use Rattle.solve_run.specs.declared.status.Status.TheVariants.{Done, Open, Usage, ReadFault, TooLong, Problem, TooManyUnknowns, TooManyEquations, WriteFault, OutOfMemory}
+use Rattle.solve_run.specs.declared.status.Status.TheVariants.{Done, Open, Usage, WriteFault}
 use Rattle.solve_run.specs.declared.status.UsageKind.{UsageKind}
 
--- all bytes of the source were read, they state the problem, and it has this root
-pub record StatesRoot (source : Stream) (bytes : List ℕ) (problem : Stated) (root : RootEquations) : Type 0 where
-  pub reads : ReadsAll source bytes
-  pub is_problem : IsProblemOf bytes problem
-  pub is_root : IsRootOf problem max_equations root
-
--- Why a source gives no root.
-pub data Refuses (source : Stream) : Status → Type 0 where
-  -- a read failed, before more bytes came than a problem may have
-  reads_fault : Rose source.faults_before source.faults_after → TookUpTo source.before source.after max_problem_bytes → Refuses source ReadFault
-  -- more bytes came
-  reads_more : TookMore source.before source.after max_problem_bytes → Refuses source TooLong
-  -- all bytes were read, and they state no problem
-  states_none : (bytes : List ℕ) (fault : ProblemFault) → ReadsAll source bytes → IsProblemFault bytes fault → fault ≢ no_problem_memory → Refuses source (Problem fault)
-  -- they state a problem with too many unknowns
-  has_unknowns : (bytes : List ℕ) (p : Stated) (count : ℕ) → ReadsAll source bytes → IsProblemOf bytes p → IsRootFault p max_equations (too_many_unknowns count) → Refuses source (TooManyUnknowns count)
-  -- or with too many equations
-  has_equations : (bytes : List ℕ) (p : Stated) (count : ℕ) → ReadsAll source bytes → IsProblemOf bytes p → IsRootFault p max_equations (too_many_equations count) → Refuses source (TooManyEquations count)
-  -- memory could not be had
-  lacks_memory : Refuses source OutOfMemory
+-- the status says why the source gives no root, or that memory could not be had
+pub record Refuses (source : Stream) (status : Status) : Type 0 where
+  pub fault : InputFault
+  pub is_fault : IsInputFault source fault
+  pub becomes : status ≡ input_status fault
 
 -- the certificate of the whole search of a root, in which the least pending case was always settled next
 pub record IsSearched (root : RootEquations) (budget : ℕ) (history : List RawEntry) (certificate : Certificate) : Type 0 where
@@ -72,6 +56,8 @@ pub record Certifies {E : Type 0} (f : Field E) (words : List (List ℕ)) (sourc
   pub leaves_are : leaves ≡ leaf_count certificate.entries
   pub opens_are : opens ≡ open_count certificate.entries
   pub writes : IsWritten (certificate_text certificate)
+  -- all numbers of the certificate are in range, so the text is one that can be read
+  pub fits : Fits certificate
   -- an assignment is a solution of the problem exactly if it meets a leaf, and then it meets just one
   pub covers : (x : List E) → AllElements f x → MeetsJustOneLeaf (Solution f problem x) (Meets f x) certificate.entries
 

@@ -2,13 +2,13 @@
 
 ghost use Rattle.std.specs.Prelude.{◌≡◌, ◌≢◌, ◌⊎◌};
 ghost use Rattle.solve_run.specs.Words.{IsBudgetOf, IsUsageFault};
-ghost use Rattle.solve_run.specs.Completeness.{TellsAll, GoesWell, CanBeSearched, IsSearchedOr};
+ghost use Rattle.root_input.specs.Streams.{TellsAll};
+ghost use Rattle.solve_run.specs.Completeness.{GoesWell, CanBeSearched, IsSearchedOr};
 ghost use Rattle.solve_run.specs.Outcomes.{Refuses, Ends};
 ghost use Rattle.solve_run.specs.declared.status.Status.TheVariants.{Usage, OutOfMemory};
 
 use field_laws::CharZeroField;
-use ring_file::problem_answer_law;
-use root_system::root_answer_law;
+use root_input::{reading_law, root_stop_law};
 
 /// Each status comes exactly where it is told to.
 ///
@@ -20,6 +20,6 @@ pub fn outcome_law<F: CharZeroField>()
     ensures refused { (words source sink other budget bytes asked status : _) → GoesWell source sink bytes → TellsAll other bytes → IsBudgetOf words budget → Refuses other asked → asked ≢ OutOfMemory → Ends F.field words source sink status → (status ≡ asked) ⊎ (status ≡ OutOfMemory) }
     ensures complete { (words source sink bytes status : _) → GoesWell source sink bytes → CanBeSearched words bytes → Ends F.field words source sink status → IsSearchedOr status }
 {
-    problem_answer_law();
-    root_answer_law();
+    reading_law();
+    root_stop_law();
 }

@@ -1,7 +1,6 @@
 //! The whole of a run: from the bytes of a problem to the bytes of a certificate.
 #![tactic(auto)]
 
-mod input;
 pub mod laws;
 mod search;
 mod settings;

@@ -1,12 +1,10 @@
 //! How a run ends, and the line and the exit status that tell it.
 
 ghost use Rattle.std.specs.Prelude.{◌≡◌, string_bytes, IfOk};
-ghost use Rattle.solve_run.specs.Lines.{status_text, problem_text, place_text, ring_text, exit_of};
+ghost use Rattle.solve_run.specs.Lines.{status_text, exit_of};
 
-use braid_io::ReadStop;
-use fusion_ring::RingFault;
-use ring_file::{Place, ProblemFault};
-use root_system::RootFault;
+use ring_file::ProblemFault;
+use root_input::{InputFault, problem_line};
 use std::alloc::{AllocError, Global};
 
 /// What is wrong with the words of a run.
@@ -43,46 +41,20 @@ pub enum Status {
     OutOfMemory,
 }
 
-impl From<ReadStop> for Status {
+impl From<InputFault> for Status {
     ghost use Rattle.std.specs.Prelude.{◌≡◌};
-    ghost use Rattle.solve_run.specs.Statuses.{read_status};
+    ghost use Rattle.solve_run.specs.Statuses.{input_status};
 
-    ghost from_gives = { λ stop status. status ≡ read_status stop };
+    ghost from_gives = { λ fault status. status ≡ input_status fault };
 
-    fn from(stop: ReadStop) -> Status {
-        match stop {
-            ReadStop::Fault => Status::ReadFault,
-            ReadStop::TooLong => Status::TooLong,
-            ReadStop::OutOfMemory => Status::OutOfMemory,
-        }
-    }
-}
-
-impl From<ProblemFault> for Status {
-    ghost use Rattle.std.specs.Prelude.{◌≡◌};
-    ghost use Rattle.solve_run.specs.Statuses.{problem_status};
-
-    ghost from_gives = { λ fault status. status ≡ problem_status fault };
-
-    fn from(fault: ProblemFault) -> Status {
+    fn from(fault: InputFault) -> Status {
         match fault {
-            ProblemFault::OutOfMemory => Status::OutOfMemory,
-            fault => Status::Problem(fault),
-        }
-    }
-}
-
-impl From<RootFault> for Status {
-    ghost use Rattle.std.specs.Prelude.{◌≡◌};
-    ghost use Rattle.solve_run.specs.Statuses.{root_status};
-
-    ghost from_gives = { λ fault status. status ≡ root_status fault };
-
-    fn from(fault: RootFault) -> Status {
-        match fault {
-            RootFault::TooManyUnknowns { count } => Status::TooManyUnknowns { count },
-            RootFault::TooManyEquations { count } => Status::TooManyEquations { count },
-            RootFault::OutOfMemory => Status::OutOfMemory,
+            InputFault::ReadFault => Status::ReadFault,
+            InputFault::TooLong => Status::TooLong,
+            InputFault::Problem(fault) => Status::Problem(fault),
+            InputFault::TooManyUnknowns { count } => Status::TooManyUnknowns { count },
+            InputFault::TooManyEquations { count } => Status::TooManyEquations { count },
+            InputFault::OutOfMemory => Status::OutOfMemory,
         }
     }
 }
@@ -103,55 +75,6 @@ pub fn status_line(alloc: Global, status: &Status) -> Result<String, AllocError>
         Status::TooManyEquations { count } => format!(in alloc; "too many equations {count}"),
         Status::WriteFault => String::from_str(alloc, "write fault"),
         Status::OutOfMemory => String::from_str(alloc, "out of memory"),
-    }
-}
-
-fn problem_line(alloc: Global, fault: &ProblemFault) -> Result<String, AllocError>
-    ensures { IfOk result (λ s. string_bytes s ≡ problem_text fault.now) }
-{
-    match fault {
-        ProblemFault::NotJson => String::from_str(alloc, "problem not json"),
-        ProblemFault::Shape(place) => place_line(alloc, place),
-        ProblemFault::Ring(ring) => ring_line(alloc, ring),
-        ProblemFault::GaugeNumber { entry } => format!(in alloc; "problem gauge number {entry}"),
-        ProblemFault::GaugeSymbol { entry } => format!(in alloc; "problem gauge symbol {entry}"),
-        ProblemFault::OutOfMemory => String::from_str(alloc, "out of memory"),
-    }
-}
-
-fn place_line(alloc: Global, place: &Place) -> Result<String, AllocError>
-    ensures { IfOk result (λ s. string_bytes s ≡ place_text place.now) }
-{
-    match place {
-        Place::Top => String::from_str(alloc, "problem shape top"),
-        Place::Labels => String::from_str(alloc, "problem shape labels"),
-        Place::Products => String::from_str(alloc, "problem shape products"),
-        Place::Product(index) => format!(in alloc; "problem shape product {index}"),
-        Place::Gauge => String::from_str(alloc, "problem shape gauge"),
-        Place::GaugeEntry(index) => format!(in alloc; "problem shape gauge entry {index}"),
-        Place::Name => String::from_str(alloc, "problem shape name"),
-        Place::Member => String::from_str(alloc, "problem shape member"),
-    }
-}
-
-fn ring_line(alloc: Global, fault: &RingFault) -> Result<String, AllocError>
-    ensures { IfOk result (λ s. string_bytes s ≡ ring_text fault.now) }
-{
-    match fault {
-        RingFault::LabelCount { labels } => format!(in alloc; "problem ring label count {labels}"),
-        RingFault::LabelRange { index } => format!(in alloc; "problem ring label range {index}"),
-        RingFault::Multiplicity { a, b, c } => format!(in alloc;
-            "problem ring multiplicity {a} {b} {c}"
-        ),
-        RingFault::UnitFault { a, b, c } => format!(in alloc; "problem ring unit {a} {b} {c}"),
-        RingFault::DualFault { a } => format!(in alloc; "problem ring dual {a}"),
-        RingFault::NotCommutative { a, b, c } => format!(in alloc;
-            "problem ring not commutative {a} {b} {c}"
-        ),
-        RingFault::NotAssociative { a, b, c, d } => {
-            format!(in alloc; "problem ring not associative {a} {b} {c} {d}")
-        }
-        RingFault::OutOfMemory => String::from_str(alloc, "out of memory"),
     }
 }
 

@@ -1,10 +1,9 @@
 //! The run.
 
 ghost use Rattle.std.specs.Prelude.{◌≡◌, ℕ, map, string_bytes};
-ghost use Rattle.solve_run.specs.Streams.{TakesSome, between};
+ghost use Rattle.root_input.specs.Streams.{TakesSome, between};
 ghost use Rattle.solve_run.specs.Outcomes.{Refuses, Counts, Ends};
 
-use crate::input::root_of;
 use crate::search::certificate_of;
 use crate::settings::budget_of;
 use crate::status::Status;
@@ -13,6 +12,7 @@ use case_history::{accepted_law, leaf_count, open_count};
 use cert_text::write_certificate;
 use field_laws::CharZeroField;
 use leaf_cert::RawEntry;
+use root_input::root_of;
 use root_system::root_law;
 use std::alloc::Global;
 
@@ -24,6 +24,7 @@ use std::alloc::Global;
 /// exactly where the bytes state no problem, or one with too many unknowns or equations. After these and after `OutOfMemory` nothing was written.
 /// `Done` and `Open` come exactly where the whole text was written, and `WriteFault` where a write failed and only a proper prefix of it was written.
 ///
+/// What was written is the text of the certificate, all of whose numbers are in the ranges that a text may have.
 /// In the field, and so in every field of characteristic zero, an assignment is a solution of the problem exactly if it meets a leaf of the
 /// certificate, and then it meets just one. After every status the bytes left are a suffix of those left before.
 pub fn run<F: CharZeroField, S: Source, K: Sink>(
@@ -46,7 +47,7 @@ pub fn run<F: CharZeroField, S: Source, K: Sink>(
     };
     let root = match root_of(alloc, source) {
         Ok(root) => root,
-        Err(status) => return status,
+        Err(fault) => return Status::from(fault),
     };
     let Ok(certificate) = certificate_of(alloc, root, budget) else {
         return Status::OutOfMemory;

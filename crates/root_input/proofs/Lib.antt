@@ -1,0 +1,3 @@
+pub mod Told
+pub mod Stops
+pub mod Readings

@@ -1,0 +1,4 @@
+pub mod Streams
+pub mod Inputs
+pub mod Faults
+pub mod Lines
