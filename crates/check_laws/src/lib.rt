@@ -1,0 +1,6 @@
+//! What the solver writes, the checker accepts.
+#![tactic(auto)]
+
+pub mod laws;
+
+pub use laws::written_law;
