@@ -1,7 +1,0 @@
-use Rattle.case_tests.proofs.Rooting.{started}
-use Rattle.case_tests.proofs.paths.end_at.Goals as goal
-
-pub loop-letter-init : goal.loop-letter-init
-loop-letter-init c =
-    let start = started c.args.root.now c.args.budget c.in_ok-case.case c.in_ok-case.ensures (c.belongs_law.ensures.root c.args.root.now c.requires) in
-    record { belongs = start.0; within = start.1 }

@@ -1,0 +1,12 @@
+//! Tables of rows, each a question and the answer that it is to have.
+#![tactic(auto)]
+
+mod fault;
+mod report;
+mod tables;
+mod texts;
+
+pub use fault::Fault;
+pub use report::work_tables;
+pub use tables::{Answers, Report, worked};
+pub use texts::{both, number, push, push_poly};
