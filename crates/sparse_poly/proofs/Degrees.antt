@@ -1,5 +1,5 @@
 -- The degree in a variable of a product is the sum of those of its factors, so that of a divisor is not above that of a polynomial.
-use Rattle.std.specs.Prelude.{◌≡◌, ◌≢◌, ◌<◌, ◌≤◌, ℕ, zero, suc, ◌+◌, ◌==◌, ◌⊎◌, Bool, true, false, if◌then◌else◌, length, slice_index_or, max, ℤ, pos, ◌+ℤ◌, ◌*ℤ◌, List, [], ◌∷◌, ◌++◌, refl}
+use Rattle.std.specs.Prelude.{◌≡◌, ◌≢◌, ◌<◌, ◌≤◌, ℕ, zero, suc, ◌+◌, ◌==◌, ◌⊎◌, true, false, if◌then◌else◌, length, slice_index_or, max, pos, ◌+ℤ◌, ◌*ℤ◌, List, [], ◌∷◌, refl}
 use mathlib.Core.Logic.{inl, inr}
 use Rattle.std.proofs.Common.{arith, sym, ◌∙◌, ap, subst}
 use Rattle.std.proofs.lemmas.Bool.{cases_lt, true≢false}

@@ -22,6 +22,7 @@ pub mod PackedTerms
 pub mod PackedSources
 pub mod OneQuotient
 pub mod Divisions
+pub mod Owings
 pub mod LongDivision
 pub mod Trailing
 pub mod Degrees

@@ -3,7 +3,6 @@ use Rattle.std.specs.Prelude.{◌≡◌, ◌≢◌, ◌<◌, ◌≤◌, ℕ, ◌
 use Rattle.std.proofs.Common.{arith, sym, ◌∙◌, ap, subst}
 use Rattle.std.proofs.lemmas.Int.{ints}
 use Rattle.std.proofs.Math.IntN.{*ℤ-zero, *ℤ_comm}
-use Rattle.std.specs.List.{AllByRecursion}
 use Rattle.std.specs.Ordering.{ordering_reverse}
 use Rattle.std.specs.declared.cmp.Ordering.{Ordering}
 use Rattle.std.specs.declared.cmp.Ordering.TheVariants.{Less, Equal, Greater}
@@ -21,6 +20,7 @@ use Rattle.std.specs.declared.option.Option.TheVariants.{None, Some}
 use Rattle.sparse_poly.specs.Units.{IsStripped}
 use Rattle.sparse_poly.specs.Clearing.{IsLight, IsInForm, DividesOpenly, IsDivision, IsDividedOut, finished, passed, divided, IsCleared, total_degree, leading_degree}
 use Rattle.std.specs.List.{Contains}
+pub use Rattle.sparse_poly.specs.Owing.{AllUnder}
 use Rattle.std.specs.FinMap.Entries.{by_order}
 use Rattle.std.specs.Ordering.{nat_cmp}
 use Rattle.std.proofs.lemmas.Option.{none-some, same_Some}
@@ -52,9 +52,6 @@ pub nonzero_product : (c d : ℤ) → c ≢ pos 0 → d ≢ pos 0 → c *ℤ d �
 nonzero_product c d h i z = i (cancel_factor c d (pos 0) h (z ∙ sym (*ℤ-zero c)))
 
 -- all products of g and u ∷ us but the leading one are below that
-abbrev pub AllUnder : List (ℕ × ℕ) → List Term → Type 0
-AllUnder m ts = AllByRecursion (λ (t : Term). monomial_cmp t.monomial m ≡ Less) ts
-
 rows_under : (as' : List Term) (a u : Term) (us : List Term) → IsPowers a.monomial → AllMonomials as' → AllMonomials (u ∷ us) → IsFalling (u ∷ us) → AllUnder a.monomial as' → AllUnder (monomial_times a.monomial u.monomial) (products as' (u ∷ us))
 rows_under [] a u us g h i f b = tt
 rows_under (x ∷ xs) a u us g h i f b =

@@ -1,11 +1,11 @@
--- What the division of polynomials is made of: a term over a term, a row of products, a difference, and what shows early that nothing divides.
-use Rattle.std.specs.Prelude.{◌≡◌, ◌<◌, ◌≤◌, ℕ, ◌*ℤ◌, unsigned_abs, List, ◌++◌}
+-- What the division of polynomials is made of: a term over a term, a row of products, and what shows early that nothing divides.
+use Rattle.std.specs.Prelude.{◌≡◌, ◌<◌, ◌≤◌, ℕ, ◌*ℤ◌, unsigned_abs, List}
 use Rattle.std.specs.List.{AllByRecursion}
 use Rattle.std.specs.declared.option.Option.TheVariants.{None}
 use Rattle.monomial.specs.Monomials.{exponent, monomial_times, too_high, IsMonomial}
 use Rattle.sparse_poly.specs.declared.Term.{Term}
-use Rattle.sparse_poly.specs.Polynomials.{coefficient, row, negated, IsSum}
-use Rattle.sparse_poly.specs.Contributions.{max_coeff, IsPoly}
+use Rattle.sparse_poly.specs.Polynomials.{row}
+use Rattle.sparse_poly.specs.Contributions.{max_coeff}
 use Rattle.sparse_poly.specs.Reads.{degree_in}
 
 -- t times d is r
@@ -23,17 +23,7 @@ pub record IsRow (t : Term) (us vs : List Term) : Type 0 where
   pub row : vs ≡ row t us
   pub fits : AllByRecursion (Fits t) us
 
--- the polynomial ps less qs
-pub record IsDifference (ps qs rs : List Term) : Type 0 where
-  pub poly : IsPoly rs
-  pub sums : IsSum rs (ps ++ negated qs)
-
 -- an exponent of a monomial is above the degree of a polynomial in its variable
 pub record IsAboveDegree (m : List (ℕ × ℕ)) (p : List Term) : Type 0 where
   pub variable : ℕ
   pub above : degree_in variable p < exponent m variable
-
--- a coefficient is out of range
-pub record HasOutOfRange (cs : List Term) : Type 0 where
-  pub at : List (ℕ × ℕ)
-  pub beyond : max_coeff < unsigned_abs (coefficient cs at)

@@ -12,3 +12,4 @@ pub mod Clearing
 pub mod Dividing
 pub mod OrderLaws
 pub mod Hashing
+pub mod Owing

@@ -1,22 +1,25 @@
 //! The division of a polynomial by another, where it leaves nothing.
-ghost use Rattle.std.specs.Prelude.{◌≡◌, ◌≢◌, false, ◌<◌, ◌≤◌, ℤ, pos, neg_ℤ, ◌+ℤ◌, ◌*ℤ◌, unsigned_abs, List, ◌∷◌, ◌++◌, IfOk, MatchOption};
+ghost use Rattle.std.specs.Prelude.{◌≡◌, ◌≢◌, false, ◌<◌, ◌≤◌, ℤ, pos, neg_ℤ, ◌+ℤ◌, ◌*ℤ◌, unsigned_abs, List, [], ◌∷◌, IfOk, MatchOption};
 ghost use Rattle.sparse_poly.specs.declared.Term.{Term};
-ghost use Rattle.sparse_poly.specs.Polynomials.{row, products, negated, IsSum};
+ghost use Rattle.sparse_poly.specs.Polynomials.{row, products, IsSum};
 ghost use Rattle.sparse_poly.specs.Contributions.{max_coeff, IsPoly};
 ghost use Rattle.sparse_poly.specs.Reads.{degree_in};
 ghost use Rattle.sparse_poly.specs.Clearing.{DividesOpenly, IsLight};
-ghost use Rattle.sparse_poly.specs.Dividing.{IsTermOver, IsRow, IsDifference, IsAboveDegree, HasOutOfRange};
+ghost use Rattle.sparse_poly.specs.Dividing.{IsTermOver, IsRow, IsAboveDegree};
+ghost use Rattle.sparse_poly.specs.Owing.{term, AreOwed, IsNextTerm};
+ghost use Rattle.std.specs.BinaryHeap.{heap_items};
 
 use crate::Term;
-use crate::layout::without_layout;
+use crate::layout::listed_powers;
 use crate::multiplying::kept_product;
+use crate::owing::{OwedRow, owe, row_above, take_owed, top_row};
 use monomial::{MonoFault, Monomial};
 use std::alloc::{AllocError, Global};
-use std::cmp::Ordering;
-use std::collections::VecDeque;
+use std::collections::{BinaryHeap, VecDeque};
 
 /// The terms of the polynomial whose product with the divisor, of which the leading term and the others are given, is that of the terms. There
-/// is `None` only where no polynomial divides openly.
+/// is `None` only where no polynomial divides openly. The terms are read one after the other, and a product of a term of the quotient with one of
+/// the others is owed until its monomial is reached.
 pub fn quotient_by(
     alloc: Global,
     terms: &[Term],
@@ -27,22 +30,76 @@ pub fn quotient_by(
     requires divisor { IsPoly (leading.now ∷ others.now) }
     ensures { IfOk result (λ o. MatchOption o ((g : List Term) → DividesOpenly (leading.now ∷ others.now) terms.now g → ⊥) (λ v. IsPoly v.items × IsSum terms.now (products v.items (leading.now ∷ others.now)))) }
 {
-    let mut rest = VecDeque::from(without_layout(alloc, terms)?);
+    let mut left = terms;
+    let mut owed = BinaryHeap::new(alloc);
     let mut made = Vec::new(alloc);
-    'divisions: while let Some(term) = rest.pop_front() {
-        let Some(next) = term_over(&term, leading)? else {
+    'divisions: while let Some(next) = next_term(alloc, left, &owed)? {
+        left = next.below;
+        let Some(coeff) = take_owed(&mut owed, &next.monomial, next.coeff)? else {
             return Ok(None);
         };
-        let Some(row) = products_with(alloc, &next, others)? else {
+        if coeff == 0 {
+            continue;
+        }
+        let monomial = next.monomial;
+        let Some(term) = term_over(&Term { monomial, coeff }, leading)? else {
             return Ok(None);
         };
-        let Some(left) = difference(alloc, rest, row)? else {
+        let Some(row) = products_with(alloc, &term, others)? else {
             return Ok(None);
         };
-        made.push(next)?;
-        rest = left;
+        owe(&mut owed, VecDeque::from(row))?;
+        made.push(term)?;
     }
     Ok(Some(made))
+}
+
+// The greatest monomial of what a division has left, with its coefficient in the polynomial, of which these terms are below it.
+#[derive(Drop)]
+struct NextTerm<'a> {
+    monomial: Monomial,
+    coeff: i128,
+    below: &'a [Term],
+}
+
+// The greatest monomial of the polynomial's terms that were not reached and the products that are owed.
+fn next_term<'a>(
+    alloc: Global,
+    left: &'a [Term],
+    owed: &BinaryHeap<OwedRow>,
+) -> Result<Option<NextTerm<'a>>, AllocError>
+    requires left { IsPoly left.now }
+    requires owed { AreOwed (heap_items owed.now) }
+    ensures { IfOk result (λ o. MatchOption o ((left.now ≡ []) × (heap_items owed.now ≡ [])) (λ n. IsNextTerm left.now (heap_items owed.now) (term n.monomial n.coeff) n.below.now)) }
+{
+    let Some((first, below)) = left.split_first() else {
+        return match top_row(owed) {
+            Some(row) => Ok(Some(owed_term(row, left)?)),
+            None => Ok(None),
+        };
+    };
+    let monomial = listed_powers(alloc, &first.monomial)?;
+    if let Some(row) = row_above(owed, &monomial) {
+        return Ok(Some(owed_term(row, left)?));
+    }
+    Ok(Some(NextTerm {
+        monomial,
+        coeff: first.coeff,
+        below,
+    }))
+}
+
+// The monomial with which a row begins, which the polynomial has not.
+fn owed_term<'a>(row: &OwedRow, left: &'a [Term]) -> Result<NextTerm<'a>, AllocError>
+    ensures monomial { IfOk result (λ n. n.monomial ≡ row.now.first.monomial) }
+    ensures coeff { IfOk result (λ n. n.coeff ≡ pos 0) }
+    ensures below { IfOk result (λ n. n.below.now ≡ left.now) }
+{
+    Ok(NextTerm {
+        monomial: row.first.monomial.copy()?,
+        coeff: 0,
+        below: left,
+    })
 }
 
 /// Whether the leading term and the last term of a divisor divide those of a polynomial. Where one does not, no polynomial divides openly.
@@ -217,8 +274,8 @@ fn product_of(x: i128, y: i128) -> Option<i128>
     Some(product)
 }
 
-// The difference of two coefficients, where it is in range.
-fn difference_of(x: i128, y: i128) -> Option<i128>
+/// The difference of two coefficients, where it is in range.
+pub fn difference_of(x: i128, y: i128) -> Option<i128>
     ensures { MatchOption result (max_coeff < unsigned_abs (x +ℤ neg_ℤ y)) (λ z. (z ≡ x +ℤ neg_ℤ y) × (unsigned_abs (x +ℤ neg_ℤ y) ≤ max_coeff)) }
 {
     match x.checked_sub(y) {
@@ -230,66 +287,4 @@ fn difference_of(x: i128, y: i128) -> Option<i128>
         }
         None => None,
     }
-}
-
-// A term with the opposite coefficient.
-fn opposite(term: Term) -> Term
-    requires { unsigned_abs term.coeff ≤ max_coeff }
-    ensures monomial { result.monomial ≡ term.monomial }
-    ensures coeff { result.coeff ≡ neg_ℤ term.coeff }
-{
-    Term {
-        monomial: term.monomial,
-        coeff: -term.coeff,
-    }
-}
-
-// The difference of two polynomials, where no coefficient is out of range. Terms of the first below all of the second stay where they are.
-fn difference(
-    alloc: Global,
-    first: VecDeque<Term>,
-    second: Vec<Term>,
-) -> Result<Option<VecDeque<Term>>, AllocError>
-    requires first { IsPoly first.items }
-    requires second { IsPoly second.items }
-    ensures { IfOk result (λ o. MatchOption o (HasOutOfRange (first.items ++ negated second.items)) (λ v. IsDifference first.items second.items v.items)) }
-{
-    let mut first = first;
-    let mut second = VecDeque::from(second);
-    let mut made = Vec::new(alloc);
-    'both: while let Some(y) = second.pop_front() {
-        let Some(x) = first.pop_front() else {
-            made.push(opposite(y))?;
-            continue;
-        };
-        match x.monomial.order(&y.monomial) {
-            Ordering::Less => {
-                first.push_front(x)?;
-                made.push(opposite(y))?;
-                continue;
-            }
-            Ordering::Equal => {
-                let Some(coeff) = difference_of(x.coeff, y.coeff) else {
-                    return Ok(None);
-                };
-                if coeff == 0 {
-                    continue;
-                }
-                made.push(Term {
-                    monomial: x.monomial,
-                    coeff,
-                })?;
-                continue;
-            }
-            Ordering::Greater => {
-                second.push_front(y)?;
-                made.push(x)?;
-                continue;
-            }
-        }
-    }
-    'back: while let Some(term) = made.pop() {
-        first.push_front(term)?;
-    }
-    Ok(Some(first))
 }

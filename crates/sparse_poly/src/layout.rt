@@ -87,8 +87,8 @@ pub fn without_layout(alloc: Global, terms: &[Term]) -> Result<Vec<Term>, AllocE
     Ok(listed)
 }
 
-// The same monomial, not stored as a word.
-fn listed_powers(alloc: Global, monomial: &Monomial) -> Result<Monomial, AllocError>
+/// The same monomial, not stored as a word.
+pub fn listed_powers(alloc: Global, monomial: &Monomial) -> Result<Monomial, AllocError>
     ensures { IfOk result (λ m. m ≡ monomial.now) }
 {
     match monomial.form() {

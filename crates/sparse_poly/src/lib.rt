@@ -23,6 +23,7 @@ mod layout;
 mod merging;
 mod multiplying;
 mod order;
+mod owing;
 mod packed_entry;
 mod packing;
 mod sources;

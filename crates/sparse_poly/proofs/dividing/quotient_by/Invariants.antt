@@ -1,8 +1,11 @@
-use Rattle.sparse_poly.proofs.LongDivision.{Divided, leading_number}
+use Rattle.std.proofs.Common.{◌++◌}
+use Rattle.std.specs.BinaryHeap.{heap_items}
+use Rattle.sparse_poly.specs.Owing.{owed_terms}
+use Rattle.sparse_poly.proofs.LongDivision.{InDivision, greatest_number}
 use Rattle.sparse_poly.proofs.dividing.quotient_by.Given as goal
 
 abbrev pub invariant-divisions : goal.invariant-divisions
-invariant-divisions l = Divided l.leading l.others l.terms l.rest.items l.made.items
+invariant-divisions l = InDivision l.leading l.others l.terms l.left l.made.items (heap_items l.owed)
 
 abbrev pub decreases-divisions : goal.decreases-divisions
-decreases-divisions l = leading_number l.rest.items
+decreases-divisions l = greatest_number (l.left ++ owed_terms (heap_items l.owed))
