@@ -1,5 +1,6 @@
 -- Numbers in decimal digits.
-use Rattle.std.specs.Prelude.{◌≡◌, ℕ, ◌+◌, ◌-◌, ◌*◌, ◌<◌, Bool, true, false, ◌&&◌, not, ◌==◌, nat_le, List, [], ◌∷◌}
+use Rattle.std.specs.Prelude.{◌≡◌, ℕ, ◌+◌, ◌-◌, ◌*◌, ◌<◌, ◌≤◌, Bool, true, false, ◌&&◌, not, ◌==◌, nat_le, ℤ, unsigned_abs, List, [], ◌∷◌}
+use Rattle.std.specs.Fmt.{signed_decimal}
 use Rattle.decimal_text.specs.declared.NumeralFault.{NumeralFault}
 use Rattle.decimal_text.specs.declared.NumeralFault.TheVariants.{Form, Range}
 
@@ -31,6 +32,11 @@ number ds = number_after 0 ds
 pub record IsGreat (max : ℕ) (text : List ℕ) : Type 0 where
   pub numeral : is_numeral text ≡ true
   pub great : max < number text
+
+-- the text is that of the signed number, of at most this absolute value: it has no leading zeros, and is not `-0`
+pub record IsSignedText (max : ℕ) (text : List ℕ) (v : ℤ) : Type 0 where
+  pub spelled : text ≡ signed_decimal v
+  pub in_range : unsigned_abs v ≤ max
 
 -- the text is no number, or one out of range
 abbrev pub IsNumeralFault : ℕ → List ℕ → NumeralFault → Type 0

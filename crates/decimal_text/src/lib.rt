@@ -1,8 +1,8 @@
-//! Whole numbers in decimal digits without leading zeros, of any size: the number in a range, or why there is none.
+//! Whole numbers in decimal digits without leading zeros, of any size: the number in a range, or why there is none; and signed ones.
 #![tactic(auto)]
 
-ghost use Rattle.std.specs.Prelude.{◌≡◌, ◌⊎◌, ◌<◌, ◌≤◌, ◌^◌, ◌+◌, ◌*◌, ◌-◌, true, decimal, MatchResult};
-ghost use Rattle.decimal_text.specs.Numerals.{is_digit, are_digits, is_numeral, number, IsNumeralFault};
+ghost use Rattle.std.specs.Prelude.{◌≡◌, ◌<◌, ◌≤◌, ◌^◌, ℕ, ℤ, List, ◌∷◌, true, decimal, MatchOption, MatchResult};
+ghost use Rattle.decimal_text.specs.Numerals.{is_digit, are_digits, is_numeral, number, IsNumeralFault, IsSignedText};
 
 /// Why a text is no number in a range.
 #[derive(Clone, Copy, Debug, Drop, PartialEq, Eq)]
@@ -43,29 +43,29 @@ fn are_digits(text: &[u8]) -> bool
     true
 }
 
-// A number with one digit more, or a great one where either is above 2^64 - 1.
-fn with_digit(number: u128, digit: u8) -> u128
-    requires { is_digit digit ≡ true }
-    ensures exact { result < 2 ^ 64 → (number < 2 ^ 64) × (result ≡ 10 * number + (digit - 48)) }
-    ensures great { 2 ^ 64 ≤ result → (2 ^ 64 ≤ number) ⊎ ((number < 2 ^ 64) × (2 ^ 64 ≤ 10 * number + (digit - 48))) }
-{
-    if number >= 18_446_744_073_709_551_616 {
-        return number;
-    }
-    number * 10 + (digit - b'0') as u128
-}
-
-// The number that digits write, or a great one where that is above 2^64 - 1.
-fn number(text: &[u8]) -> u128
+// The number that digits write, if it is below 2^128.
+fn number(text: &[u8]) -> Option<u128>
     requires { are_digits text.now ≡ true }
-    ensures exact { result < 2 ^ 64 → number text.now ≡ result }
-    ensures great { 2 ^ 64 ≤ result → 2 ^ 64 ≤ number text.now }
+    ensures { MatchOption result (2 ^ 128 ≤ number text.now) (λ n. n ≡ number text.now) }
 {
     let mut number = 0u128;
     'digits: for byte in text {
-        number = with_digit(number, *byte);
+        number = number.checked_mul(10)?.checked_add((*byte - b'0') as u128)?;
     }
-    number
+    Some(number)
+}
+
+// The number of at most `max` whose one text this is.
+fn read_up_to(text: &[u8], max: u128) -> Result<u128, NumeralFault>
+    ensures { MatchResult result (λ n. (text.now ≡ decimal n) × (n ≤ max)) (IsNumeralFault max text.now) }
+{
+    if !is_numeral(text) {
+        return Err(NumeralFault::Form);
+    }
+    match number(text) {
+        Some(number) if number <= max => Ok(number),
+        _ => Err(NumeralFault::Range),
+    }
 }
 
 /// The number of at most `max` whose one text this is. `Form` comes exactly where the text is no number in digits without leading zeros, and
@@ -73,14 +73,39 @@ fn number(text: &[u8]) -> u128
 pub fn read_number(text: &[u8], max: u64) -> Result<u64, NumeralFault>
     ensures { MatchResult result (λ n. (text.now ≡ decimal n) × (n ≤ max)) (IsNumeralFault max text.now) }
 {
-    if !is_numeral(text) {
-        return Err(NumeralFault::Form);
+    match read_up_to(text, max as u128) {
+        Ok(number) => Ok(number as u64),
+        Err(fault) => Err(fault),
     }
-    let number = number(text);
-    if number > max as u128 {
-        return Err(NumeralFault::Range);
+}
+
+// What follows a minus sign.
+fn after_minus(text: &[u8]) -> Option<&[u8]>
+    ensures { MatchOption result ((rest : List ℕ) → text.now ≡ 45 ∷ rest → ⊥) (λ rest. text.now ≡ 45 ∷ rest.now) }
+{
+    match text {
+        [b'-', rest @ ..] => Some(rest),
+        _ => None,
     }
-    Ok(number as u64)
+}
+
+/// The number of an absolute value of at most `max` whose one text this is: digits without leading zeros, after `-` where it is below 0. `None`
+/// comes exactly where the text is that of no such number.
+pub fn read_signed(text: &[u8], max: u128) -> Option<i128>
+    requires { max < 2 ^ 127 }
+    ensures { MatchOption result ((v : ℤ) → IsSignedText max text.now v → ⊥) (IsSignedText max text.now) }
+{
+    match after_minus(text) {
+        Some(digits) => match read_up_to(digits, max) {
+            Ok(0) => None,
+            Ok(size) => Some(-(size as i128)),
+            Err(_) => None,
+        },
+        None => match read_up_to(text, max) {
+            Ok(size) => Some(size as i128),
+            Err(_) => None,
+        },
+    }
 }
 
 /// What `decimal` writes of a number is a numeral, of that number. So a number has one such text.

@@ -1,36 +1,20 @@
 -- A text spells at most one number, a list is determined by what is made of its items, and at most one item is the first without something.
-use Rattle.std.specs.Prelude.{◌≡◌, ℕ, suc, ◌≤◌, ℤ, pos, negsuc, unsigned_abs, Some, List, [], ◌∷◌, ◌++◌, map, length, get_or, refl}
+use Rattle.std.specs.Prelude.{◌≡◌, ℕ, suc, ◌≤◌, ℤ, unsigned_abs, Some, List, [], ◌∷◌, ◌++◌, map, length, refl}
 use Rattle.std.specs.List.{All}
-use Rattle.std.specs.Fmt.{decimal, signed_decimal}
-use Rattle.std.specs.Str.Parse.{digits_value}
-use Rattle.std.proofs.Common.{◌∙◌, ap, sym as back, arith, lit<}
+use Rattle.std.specs.Fmt.{signed_decimal}
+use Rattle.std.proofs.Common.{◌∙◌, ap, sym as back, arith}
 use Rattle.std.proofs.lemmas.List.Elements.{All-head, All-map, All-tail, All-weaker}
-use Rattle.std.proofs.lemmas.Fmt.{decimal_is_IsNumeral_wide}
 use Rattle.fusion_ring.specs.Fusion.{Fusion}
 use Rattle.symbol_index.specs.declared.Symbol.{Symbol}
 use Rattle.symbol_index.specs.declared.GaugeEntry.{GaugeEntry}
 use Rattle.ring_file.specs.Problems.{max_value, IsGauge, IsGaugeEntry}
 use Rattle.ring_file.specs.Reading.{IsFirstWithout, HasNumber, NamesUnknown, in_file}
-use Rattle.ring_file.proofs.Numbers.{first_digit}
+use Rattle.decimal_text.proofs.Written.{same_signed}
 
 -- ---- the number of a text
 
-same_decimal : (m n : ℕ) → m ≤ max_value → n ≤ max_value → decimal m ≡ decimal n → m ≡ n
-same_decimal m n h k e = back (decimal_is_IsNumeral_wide m (omega arith)).1 ∙ ap (digits_value 10) e ∙ (decimal_is_IsNumeral_wide n (omega arith)).1
-
--- a minus is no digit
-no_minus : (n : ℕ) (ds : List ℕ) → n ≤ max_value → ¬ decimal n ≡ 45 ∷ ds
-no_minus n ds h e = first_digit (decimal n) 45 (decimal_is_IsNumeral_wide n (omega arith)).0 (lit< tt) (ap (λ l. get_or l 0 0) e)
-
 pub same_number : (v w : ℤ) → unsigned_abs v ≤ max_value → unsigned_abs w ≤ max_value → signed_decimal v ≡ signed_decimal w → v ≡ w
-same_number (pos m) (pos n) h k e = ap pos (same_decimal m n h k e)
-same_number (pos m) (negsuc n) h k e = absurd (no_minus m (decimal (suc n)) h e)
-same_number (negsuc m) (pos n) h k e = absurd (no_minus n (decimal (suc m)) k (back e))
-same_number (negsuc m) (negsuc n) h k e =
-    let f : decimal (suc m) ≡ decimal (suc n) = cc e in
-    let g : suc m ≡ suc n = same_decimal (suc m) (suc n) h k f in
-    let i : m ≡ n = omega arith in
-    ap negsuc i
+same_number v w h k e = same_signed v w (omega arith) (omega arith) e
 
 -- ---- lists
 

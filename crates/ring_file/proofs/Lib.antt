@@ -1,7 +1,6 @@
 pub mod Parts
 pub mod Names
 pub mod Checks
-pub mod Numbers
 pub mod Firsts
 pub mod Faults
 pub mod Alone

@@ -1,9 +1,10 @@
 -- Which problem some bytes state, and why they state none.
-use Rattle.std.specs.Prelude.{◌≡◌, ◌≢◌, ℕ, ◌≤◌, true, ℤ, unsigned_abs, Some, List, ◌∷◌, ◌++◌, map, length, IsUtf8}
+use Rattle.std.specs.Prelude.{◌≡◌, ◌≢◌, ℕ, true, ℤ, Some, List, ◌∷◌, ◌++◌, map, length, IsUtf8}
 use Rattle.std.specs.List.{All}
 use Rattle.std.specs.Fmt.{signed_decimal}
 use Rattle.serde_json.specs.Data.{Data}
 use Rattle.serde_json.specs.Read.{read}
+use Rattle.decimal_text.specs.Numerals.{IsSignedText}
 use Rattle.fusion_ring.specs.Fusion.{Fusion}
 use Rattle.fusion_ring.specs.Faults.{IsRingOf, IsRingFault}
 use Rattle.fusion_ring.specs.declared.RingFault.TheVariants.{OutOfMemory as ring_memory}
@@ -19,9 +20,8 @@ abbrev pub IsReading : List ℕ → Data → Type 0
 IsReading bytes d = IsUtf8 bytes × (read bytes ≡ Some d)
 
 -- the text is the decimal text of the number, which is in range: it has no leading zeros, and is not `-0`
-pub record IsNumberText (text : List ℕ) (v : ℤ) : Type 0 where
-  pub spelled : text ≡ signed_decimal v
-  pub in_range : unsigned_abs v ≤ max_value
+abbrev pub IsNumberText : List ℕ → ℤ → Type 0
+IsNumberText text v = IsSignedText max_value text v
 
 abbrev pub HasNumber : Symbol × List ℕ → Type 0
 HasNumber e = (v : ℤ) × IsNumberText e.1 v

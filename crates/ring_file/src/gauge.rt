@@ -1,18 +1,20 @@
 //! The gauge entries of a problem file.
 
-ghost use Rattle.std.specs.Prelude.{◌≡◌, ◌≤◌, ◌↔◌, IsTrue, ℤ, false, true, map, MatchOption, MatchResult, unsigned_abs};
+ghost use Rattle.std.specs.Prelude.{◌≡◌, ◌≤◌, ℤ, false, true, map, MatchOption, MatchResult, unsigned_abs};
 ghost use Rattle.std.specs.List.{All};
-ghost use Rattle.std.specs.Fmt.{signed_decimal};
 ghost use Rattle.ring_file.specs.Problems.{max_value, is_gauge_symbol, IsGauge};
 ghost use Rattle.ring_file.specs.Reading.{IsNumberText, in_file};
 ghost use Rattle.ring_file.specs.Named.{named_symbol, written_entry, valued_entry, AreValued, IsNumberFault, AreGauge, IsSymbolFault};
 
 use crate::problem::ProblemFault;
 use crate::symbols::{Named, NamedEntry};
+use decimal_text::read_signed;
 use fusion_ring::Ring;
-use itoa::Buffer;
 use std::alloc::Global;
 use symbol_index::{GaugeEntry, Symbol};
+
+/// The greatest absolute value of a gauge value.
+const MAX_VALUE: u128 = 170_141_183_460_469_231_731_687_303_715_884_105_727;
 
 /// A gauge entry with its value.
 #[derive(Clone, Copy)]
@@ -22,29 +24,10 @@ pub(crate) struct ValuedEntry {
 }
 
 /// The whole number of absolute value at most `2^127-1` that has this decimal text, if there is one.
-///
-/// A number has one such text, so a text that a number is not printed as is none.
 fn whole_number(text: &str) -> Option<i128>
     ensures { MatchOption result ((v : ℤ) → ¬ IsNumberText text.now v) (IsNumberText text.now) }
 {
-    let Ok(value) = text.parse::<i128>() else {
-        return None;
-    };
-    if value == i128::MIN {
-        return None;
-    }
-    if is_printed(value, text) {
-        Some(value)
-    } else {
-        None
-    }
-}
-
-fn is_printed(value: i128, text: &str) -> bool
-    ensures { IsTrue result ↔ (text.now ≡ signed_decimal value) }
-{
-    let mut buffer = Buffer::new();
-    buffer.format(value) == text
+    read_signed(text.as_bytes(), MAX_VALUE)
 }
 
 /// The entries with their values, or the first entry that has none.

@@ -1,19 +1,22 @@
-use Rattle.std.proofs.Common.{◌∙◌, ◌<◌, ◌+◌, sym, ap, arith, drop, length, inl, inr}
-use Rattle.decimal_text.specs.Numerals.{number_after}
-use Rattle.decimal_text.proofs.Digits.{digits_step, number_step, great_step}
+use Rattle.std.proofs.Common.{◌<◌, ◌+◌, ◌-◌, ◌*◌, ◌^◌, arith}
+use Rattle.std.specs.Prelude.{get_or}
+use Rattle.decimal_text.proofs.Digits.{great_step}
 use Rattle.decimal_text.proofs.number.Goals as goal
 
-pub digits-preserved : goal.digits-preserved
-digits-preserved c =
+pub returns-in_err-checked_mul : goal.returns-in_err-checked_mul
+returns-in_err-checked_mul c =
     let s = c.args.text.now in
     let i = c.digits.byte-index in
     let n = c.digits.number in
-    let h : i < length s = omega arith in
-    record {
-      digits = (digits_step s i h c.digits.invariant.digits).1;
-      exact = λ k. let e = c.with_digit-number.ensures.exact k in c.digits.invariant.exact e.0 ∙ number_step s i n h ∙ ap (λ m. number_after m (drop (i + 1) s)) (sym e.1);
-      great = λ k. elim (c.with_digit-number.ensures.great k) [
-        | inl l ↦ c.digits.invariant.great l
-        | inr l ↦ (let e = c.digits.invariant.exact l.0 in let g = great_step s i n _ h l.1 in omega (arith, e, g))
-      ];
-    }
+    let no : n * 10 < 2 ^ 128 → ⊥ = c.in_err-checked_mul.ensures in
+    let great = great_step s i n (2 ^ 128) (omega arith) (omega (arith, no)) in
+    rw c.from_residual.ensures (omega (arith, great, c.digits.invariant.exact))
+
+pub returns-in_err-number : goal.returns-in_err-number
+returns-in_err-number c =
+    let s = c.args.text.now in
+    let i = c.digits.byte-index in
+    let n = c.digits.number in
+    let no : c.in_ok-checked_mul.field-0 + (get_or s i 0 - 48) < 2 ^ 128 → ⊥ = c.in_err-number.ensures in
+    let great = great_step s i n (2 ^ 128) (omega arith) (omega (arith, no, c.in_ok-checked_mul.ensures)) in
+    rw c.from_residual-in_err-number.ensures (omega (arith, great, c.digits.invariant.exact))
