@@ -33,7 +33,8 @@ use Rattle.case_rules.specs.Rules.{IsAlive, IsDeadAt, IsLinearIn, IsOtherWith, I
 use Rattle.case_rules.proofs.EndsBelong.{below_at}
 use Rattle.case_rules.proofs.Regular.{polys_at, polys_length}
 use Rattle.case_rules.proofs.Sides.{division_sides, powers_of}
-use Rattle.case_state.specs.Places.{HasPlace, IsReducedAt}
+use Rattle.case_system.specs.Places.{HasPlace}
+use Rattle.case_state.specs.Places.{IsReducedAt}
 use Rattle.case_split.specs.Found.{None_below, IsOnlyAt, IsSomePlace, IsLeftOf, AreInOrder}
 use Rattle.case_split.proofs.Due.{poly_of}
 

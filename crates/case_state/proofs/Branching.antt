@@ -10,13 +10,14 @@ use Rattle.derive_lines.specs.declared.parts.Line.{Line}
 use Rattle.derive_lines.specs.Lines.{conditions}
 use Rattle.derive_lines.specs.Refuting.{decided}
 use Rattle.case_rules.specs.declared.equation.Equation.{Equation}
-use Rattle.case_rules.specs.Cases.{CaseState, known, equation, poly}
+use Rattle.case_rules.specs.Cases.{CaseState, known, equation, equation_at}
 use Rattle.case_rules.specs.Kept.{added, all_added}
 use Rattle.case_rules.specs.Clearings.{made, IsClearing, AreCleared, AreStripped}
 use Rattle.case_rules.specs.Branches.{step_line, zero_equation, IsNonzeroBranch, IsTailOf, IsTailBranch}
-use Rattle.case_state.specs.Appending.{IsReducedBy, IsClearedBy, AreClearedBy, AreStrippedBy}
-use Rattle.case_state.specs.Places.{HasPlace, IsReducedAt}
 use Rattle.case_rules.proofs.Items.{conditions_zero, conditions_nonzero}
+use Rattle.case_system.specs.Systems.{SystemState, with_equations, IsAddedCleared, IsReplaced, HasCondition}
+use Rattle.case_state.specs.Places.{IsReducedAt}
+use Rattle.case_state.specs.Reducing.{IsReducedBy}
 
 -- the known conditions of a branch
 pub known_zero : (ds : List Decision) (s : List Term) → conditions (decided ds s true) ≡ conditions ds
@@ -32,40 +33,50 @@ same_case : (ds ds' : List Decision) (es es' : List Equation) (ls ls' : List Lin
 same_case ds ds' es es' ls ls' m m' a b c d =
     ap (λ x. case_of x es ls m) a ∙ ap (λ x. case_of ds' x ls m) b ∙ ap (λ x. case_of ds' es' x m) c ∙ ap (λ x. case_of ds' es' ls' x) d
 
-pub nonzero_made : (c : CaseState) (by : List Term) (ds : List Decision) (es : List Equation) (first : List (List Term)) (q : List Term) (second units others : List (List Term)) (before : List Line) (eqs : List Equation) (mid : List Line) (stripped : List Equation) (now : List Line) (cleared : List Equation) (m : ℕ) → ds ≡ decided c.decisions by false → first ≡ known c → q ≡ by → second ≡ first ++ q ∷ [] → units ≡ second → others ≡ second → before ≡ c.lines → eqs ≡ c.equations → AreStrippedBy units before eqs mid stripped → AreClearedBy others mid stripped now cleared → es ≡ all_added cleared [] → m ≡ c.moves + 1 → IsNonzeroBranch c by (record { decisions = ds; equations = es; lines = now; moves = m })
-nonzero_made c by ds es first q second units others before eqs mid stripped now cleared m d a1 a2 a3 u w b e s t o n = record {
-  strips = s.more;
-  stripped = stripped;
-  are_stripped = subst (λ ns. AreStripped ns (length c.lines) c.equations s.more stripped) (u ∙ all)
-      (subst (λ ls. AreStripped units (length ls) c.equations s.more stripped) b (subst (λ xs. AreStripped units (length before) xs s.more stripped) e s.stripping));
-  clears = t.more;
-  cleared = cleared;
-  are_cleared = subst (λ ns. AreCleared ns (length c.lines + length s.more) stripped t.more cleared) (w ∙ all) (subst (λ k. AreCleared others k stripped t.more cleared) long t.clearing);
-  is = same_case ds (decided c.decisions by false) es (all_added cleared []) now (c.lines ++ (s.more ++ t.more)) m (c.moves + 1) d o lines n;
+-- the equations of a case and its known conditions
+abbrev pub system_of : CaseState → SystemState
+system_of c = record { conditions = known c; equations = c.equations }
+
+pub system_is : (c : CaseState) (ds : List Decision) (s : SystemState) (ls : List Line) (m : ℕ) → case_of ds s.equations ls m ≡ c → s.conditions ≡ conditions ds → s ≡ system_of c
+system_is c ds s ls m v u = subst (λ x. s ≡ system_of x) v (ap (λ ns. let x : SystemState = record { conditions = ns; equations = s.equations } in x) u)
+
+pub nonzero_made : (c : CaseState) (by : List Term) (ds : List Decision) (s s' : SystemState) (before now : List Line) (m : ℕ) → s ≡ system_of c → ds ≡ decided c.decisions by false → before ≡ c.lines → HasCondition s by before now s' → m ≡ c.moves + 1 → IsNonzeroBranch c by (case_of ds s'.equations now m)
+nonzero_made c by ds s s' before now m e d b g n = record {
+  strips = h.are_stripped.more;
+  stripped = h.stripped;
+  are_stripped = subst (λ ns. AreStripped ns (length c.lines) c.equations h.are_stripped.more h.stripped) all h.are_stripped.stripping;
+  clears = h.are_cleared.more;
+  cleared = h.cleared;
+  are_cleared = subst (λ ns. AreCleared ns (length c.lines + length h.are_stripped.more) h.stripped h.are_cleared.more h.cleared) all
+      (subst (λ k. AreCleared (known c ++ by ∷ []) k h.stripped h.are_cleared.more h.cleared) long h.are_cleared.clearing);
+  is = same_case ds (decided c.decisions by false) s'.equations (all_added h.cleared []) now (c.lines ++ (h.are_stripped.more ++ h.are_cleared.more)) m (c.moves + 1) d (ap (λ (x : SystemState). x.equations) h.is) lines n;
 }
   where
-    all : second ≡ conditions (decided c.decisions by false)
-    all = a3 ∙ ap (λ ns. ns ++ q ∷ []) a1 ∙ ap (λ p. known c ++ p ∷ []) a2 ∙ sym (conditions_nonzero c.decisions by)
+    h : HasCondition (system_of c) by c.lines now s'
+    h = subst (λ ls. HasCondition (system_of c) by ls now s') b (subst (λ x. HasCondition x by before now s') e g)
 
-    middle : mid ≡ c.lines ++ s.more
-    middle = s.is ∙ ap (λ ls. ls ++ s.more) b
+    all : known c ++ by ∷ [] ≡ conditions (decided c.decisions by false)
+    all = sym (conditions_nonzero c.decisions by)
 
-    long : length mid ≡ length c.lines + length s.more
-    long = ap length middle ∙ length-append c.lines s.more
+    long : length h.middle ≡ length c.lines + length h.are_stripped.more
+    long = ap length h.are_stripped.is ∙ length-append c.lines h.are_stripped.more
 
-    lines : now ≡ c.lines ++ (s.more ++ t.more)
-    lines = t.is ∙ ap (λ ls. ls ++ t.more) middle ∙ append_assoc c.lines s.more t.more
+    lines : now ≡ c.lines ++ (h.are_stripped.more ++ h.are_cleared.more)
+    lines = h.are_cleared.is ∙ ap (λ ls. ls ++ h.are_cleared.more) h.are_stripped.is ∙ append_assoc c.lines h.are_stripped.more h.are_cleared.more
 
-pub tail_made : (c : CaseState) (by : List Term) (i : ℕ) (step : Reduction) (zero : Equation) (before : List Line) (r : List Term) (k : ℕ) (line : Line) (next : List Line) (units : List (List Term)) (now : List Line) (rest : Equation) (es0 es1 es2 es3 : List Equation) (ds : List Decision) (m : ℕ) → IsTailOf c by i step → zero ≡ zero_equation c by → before ≡ c.lines → r ≡ step.r → k ≡ length before → line ≡ step_line (equation c i).item zero.item step → next ≡ before ++ line ∷ [] → units ≡ known c → IsClearedBy units next (made r k) now rest → es0 ≡ c.equations → es1 ≡ remove es0 i → es2 ≡ added zero es1 → es3 ≡ added rest es2 → ds ≡ decided c.decisions by true → m ≡ c.moves + 1 → IsTailBranch c by i (record { decisions = ds; equations = es3; lines = now; moves = m })
-tail_made c by i step zero before r k line next units now rest es0 es1 es2 es3 ds m t z b p n l x u s e0 e1 e2 e3 d w = record {
+pub same_conditions : (c : CaseState) (es2 es3 : List Equation) (s s1 s2 s3 : SystemState) → s ≡ system_of c → s1 ≡ s → s2 ≡ with_equations s1 es2 → s3 ≡ with_equations s2 es3 → s3.conditions ≡ known c
+same_conditions c es2 es3 s s1 s2 s3 e e1 e2 e3 = ap (λ (y : SystemState). y.conditions) (e3 ∙ ap (λ (y : SystemState). with_equations y es3) (e2 ∙ ap (λ (y : SystemState). with_equations y es2) (e1 ∙ e)))
+
+pub tail_made : (c : CaseState) (by : List Term) (i : ℕ) (step : Reduction) (zero : Equation) (before : List Line) (r : List Term) (k : ℕ) (line : Line) (next now : List Line) (s s1 s2 s3 s4 : SystemState) (ds : List Decision) (m : ℕ) → s ≡ system_of c → IsTailOf c by i step → zero ≡ zero_equation c by → before ≡ c.lines → r ≡ step.r → k ≡ length before → line ≡ step_line (equation c i).item zero.item step → next ≡ before ++ line ∷ [] → s1 ≡ s → s2 ≡ with_equations s1 (remove s1.equations i) → s3 ≡ with_equations s2 (added zero s2.equations) → IsAddedCleared s3 next (made r k) now s4 → ds ≡ decided c.decisions by true → m ≡ c.moves + 1 → IsTailBranch c by i (case_of ds s4.equations now m)
+tail_made c by i step zero before r k line next now s s1 s2 s3 s4 ds m e t z b p n l x e1 e2 e3 h d w = record {
   step = step;
   tail = t;
-  lines = s.more;
-  rest = rest;
-  clearing = subst (λ ns. IsClearing ns (length c.lines + 1) (made step.r (length c.lines)) s.more rest) u
-      (subst (λ j. IsClearing units (length c.lines + 1) (made step.r j) s.more rest) (n ∙ ap length b)
-      (subst (λ q. IsClearing units (length c.lines + 1) (made q k) s.more rest) p (subst (λ j. IsClearing units j (made r k) s.more rest) long s.clearing)));
-  is = same_case ds (decided c.decisions by true) es3 (added rest (added (zero_equation c by) (remove c.equations i))) now (c.lines ++ own ∷ s.more) m (c.moves + 1) d equations lines w;
+  lines = h.cleared.more;
+  rest = h.rest;
+  clearing = subst (λ ns. IsClearing ns (length c.lines + 1) (made step.r (length c.lines)) h.cleared.more h.rest) units
+      (subst (λ j. IsClearing s3.conditions (length c.lines + 1) (made step.r j) h.cleared.more h.rest) (n ∙ ap length b)
+      (subst (λ q. IsClearing s3.conditions (length c.lines + 1) (made q k) h.cleared.more h.rest) p (subst (λ j. IsClearing s3.conditions j (made r k) h.cleared.more h.rest) long h.cleared.clearing)));
+  is = same_case ds (decided c.decisions by true) s4.equations (added h.rest (added (zero_equation c by) (remove c.equations i))) now (c.lines ++ own ∷ h.cleared.more) m (c.moves + 1) d equations lines w;
 }
   where
     own : Line
@@ -80,22 +91,46 @@ tail_made c by i step zero before r k line next units now rest es0 es1 es2 es3 d
     long : length next ≡ length c.lines + 1
     long = ap length after ∙ length-append c.lines (own ∷ [])
 
-    lines : now ≡ c.lines ++ own ∷ s.more
-    lines = s.is ∙ ap (λ ls. ls ++ s.more) after ∙ append_assoc c.lines (own ∷ []) s.more
+    lines : now ≡ c.lines ++ own ∷ h.cleared.more
+    lines = h.cleared.is ∙ ap (λ ls. ls ++ h.cleared.more) after ∙ append_assoc c.lines (own ∷ []) h.cleared.more
 
-    equations : es3 ≡ added rest (added (zero_equation c by) (remove c.equations i))
-    equations = e3 ∙ ap (added rest) (e2 ∙ ap (λ y. added y es1) z ∙ ap (added (zero_equation c by)) (e1 ∙ ap (λ es. remove es i) e0))
+    units : s3.conditions ≡ known c
+    units = same_conditions c (remove s1.equations i) (added zero s2.equations) s s1 s2 s3 e e1 e2 e3
 
-pub reduced_made : (c : CaseState) (q p v : ℕ) (at : Option ℕ) (ds : List Decision) (units : List (List Term)) (es0 es1 es2 : List Equation) (before now : List Line) (rest : Equation) (m : ℕ) → ds ≡ c.decisions → units ≡ known c → es0 ≡ c.equations → before ≡ c.lines → IsReducedBy units es0 q p v before now rest → es1 ≡ remove c.equations q → es2 ≡ added rest es1 → HasPlace rest.poly es1 at → m ≡ c.moves + 1 → IsReducedAt c q p v at (record { decisions = ds; equations = es2; lines = now; moves = m })
-reduced_made c q p v at ds units es0 es1 es2 before now rest m d u e0 b r e1 e2 h n = let s : IsReducedBy units c.equations q p v before now rest = subst (λ es. IsReducedBy units es q p v before now rest) e0 r in record {
-  reduced = record {
-    step = s.step;
-    reduction = subst (λ ns. IsReduction ns (poly c q) (poly c p) v s.step) u s.reduction;
-    lines = s.lines;
-    rest = rest;
-    clearing = subst (λ ns. IsClearing ns (length c.lines + 1) (made s.step.r (length c.lines)) s.lines rest) u (subst (λ ls. IsClearing units (length ls + 1) (made s.step.r (length ls)) s.lines rest) b s.clearing);
-    is = same_case ds c.decisions es2 (added rest (remove c.equations q)) now (c.lines ++ step_line (equation c q).item (equation c p).item s.step ∷ s.lines) m (c.moves + 1) d
-        (e2 ∙ ap (added rest) e1) (s.is ∙ ap (λ ls. ls ++ step_line (equation c q).item (equation c p).item s.step ∷ s.lines) b) n;
-  };
-  place = subst (λ es. HasPlace rest.poly es at) e1 h;
+    equations : s4.equations ≡ added h.rest (added (zero_equation c by) (remove c.equations i))
+    equations =
+        ap (λ (y : SystemState). y.equations) h.is
+        ∙ ap (λ (y : SystemState). added h.rest y.equations) e3
+        ∙ ap (λ y. added h.rest (added y s2.equations)) z
+        ∙ ap (λ (y : SystemState). added h.rest (added (zero_equation c by) y.equations)) e2
+        ∙ ap (λ (y : SystemState). added h.rest (added (zero_equation c by) (remove y.equations i))) (e1 ∙ e)
+
+pub reduced_by : (s s' : SystemState) (q p v : ℕ) (at : Option ℕ) (before next now : List Line) (step : Reduction) (r : List Term) (k : ℕ) (line : Line) → IsReduction s.conditions (equation_at s.equations q).poly (equation_at s.equations p).poly v step → r ≡ step.r → k ≡ length before → line ≡ step_line (equation_at s.equations q).item (equation_at s.equations p).item step → next ≡ before ++ line ∷ [] → IsReplaced s q next (made r k) now at s' → IsReducedBy s q p v before now at s'
+reduced_by s s' q p v at before next now step r k line d e n l x h = record {
+  step = step;
+  reduction = d;
+  lines = h.cleared.more;
+  rest = h.rest;
+  clearing = subst (λ j. IsClearing s.conditions (length before + 1) (made step.r j) h.cleared.more h.rest) n
+      (subst (λ q. IsClearing s.conditions (length before + 1) (made q k) h.cleared.more h.rest) e
+      (subst (λ j. IsClearing s.conditions j (made r k) h.cleared.more h.rest) (ap length x ∙ length-append before (line ∷ [])) h.cleared.clearing));
+  place = h.place;
+  appended = h.cleared.is ∙ ap (λ ls. ls ++ h.cleared.more) x ∙ append_assoc before (line ∷ []) h.cleared.more ∙ ap (λ y. before ++ y ∷ h.cleared.more) l;
+  is = h.is;
 }
+
+pub reduced_made : (c : CaseState) (q p v : ℕ) (at : Option ℕ) (ds : List Decision) (s s' : SystemState) (before now : List Line) (m : ℕ) → s ≡ system_of c → ds ≡ c.decisions → before ≡ c.lines → IsReducedBy s q p v before now at s' → m ≡ c.moves + 1 → IsReducedAt c q p v at (case_of ds s'.equations now m)
+reduced_made c q p v at ds s s' before now m e d b g n = record {
+  reduced = record {
+    step = h.step;
+    reduction = h.reduction;
+    lines = h.lines;
+    rest = h.rest;
+    clearing = h.clearing;
+    is = same_case ds c.decisions s'.equations (added h.rest (remove c.equations q)) now (c.lines ++ step_line (equation c q).item (equation c p).item h.step ∷ h.lines) m (c.moves + 1) d (ap (λ (x : SystemState). x.equations) h.is) h.appended n;
+  };
+  place = h.place;
+}
+  where
+    h : IsReducedBy (system_of c) q p v c.lines now at s'
+    h = subst (λ ls. IsReducedBy (system_of c) q p v ls now at s') b (subst (λ x. IsReducedBy x q p v before now at s') e g)

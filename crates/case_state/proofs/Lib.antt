@@ -1,5 +1,3 @@
-mod BeingCleared
 mod Branching
-mod Placing
 mod Rooting
 mod TailSteps

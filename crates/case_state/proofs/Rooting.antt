@@ -5,7 +5,7 @@ use Rattle.sparse_poly.specs.declared.Term.{Term}
 use Rattle.derive_lines.specs.declared.parts.Item.TheVariants as item
 use Rattle.case_rules.specs.declared.equation.Equation.{Equation}
 use Rattle.case_rules.specs.Cases.{numbered}
-use Rattle.case_state.proofs.Placing.{take_this}
+use Rattle.case_system.proofs.Placing.{take_this}
 
 pub numbered_more : (k : ℕ) (ps : List (List Term)) (p : List Term) → numbered k (ps ++ p ∷ []) ≡ numbered k ps ++ (let e : Equation = record { poly = p; item = item.Root (k + length ps) } in e) ∷ []
 numbered_more k [] p = ap (λ n. (let e : Equation = record { poly = p; item = item.Root n } in e) ∷ []) (omega arith)

@@ -3,13 +3,13 @@ ghost use Rattle.std.specs.Prelude.{◌≡◌, ◌<◌, ◌+◌, ◌^◌, true, 
 ghost use Rattle.pseudo_rem.specs.Steps.{CanReduce as CanReduceBy, IsStepFault};
 ghost use Rattle.case_rules.specs.Cases.{equation_at, numbered};
 ghost use Rattle.case_rules.specs.Branches.{step_line};
-ghost use Rattle.case_state.specs.Appending.{Grows, IsReducedBy};
+ghost use Rattle.case_system.specs.Appending.{Grows};
+ghost use Rattle.case_state.specs.Reducing.{IsReducedBy};
 
-use crate::clearing::{clear_equation, clear_equations, strip_equations};
-use crate::copies::{copied_decisions, copied_equations, copied_lines, copied_polys};
-use crate::kept::{add, add_in_room, in_order, item_of};
+use crate::copies::{copied_decisions, copied_lines};
 use crate::shown::{Decisions, Equations, Lines};
 use case_rules::Equation;
+use case_system::{System, item_of};
 use derive_lines::{Decision, Item, Line, Way};
 use pseudo_rem::{Reduction, reduce_once, tail_step};
 use sparse_poly::{Poly, PolyFault};
@@ -20,22 +20,22 @@ use std::marker::Model;
 #[derive(Drop)]
 pub struct Case {
     decisions: Vec<Decision>,
-    equations: Vec<Equation>,
+    // the equations, and as known conditions the polynomials of the nonzero decisions
+    system: System,
     lines: Vec<Line>,
     moves: u32,
-    // the polynomials of the nonzero decisions
-    known: Vec<Poly>,
 }
 
 impl Model for Case {
+    ghost use Rattle.std.specs.Prelude.{◌≡◌};
+    ghost use Rattle.derive_lines.specs.Lines.{conditions};
     ghost use Rattle.case_rules.specs.Cases.{CaseState};
-    ghost use Rattle.case_state.specs.Places.{IsKept};
 
     ghost Value = { CaseState };
 
-    ghost view = { λ c. record { decisions = c.decisions.items; equations = c.equations.items; lines = c.lines.items; moves = c.moves } };
+    ghost view = { λ c. record { decisions = c.decisions.items; equations = c.system.equations; lines = c.lines.items; moves = c.moves } };
 
-    ghost invariant = { λ c. IsKept c.decisions.items c.equations.items c.known.items };
+    ghost invariant = { λ c. c.system.conditions ≡ conditions c.decisions.items };
 }
 
 impl Case {
@@ -53,10 +53,9 @@ impl Case {
     {
         Ok(Case {
             decisions: Vec::new(alloc),
-            equations: root_equations(alloc, root)?,
+            system: System::new(alloc, root_equations(alloc, root)?)?,
             lines: Vec::new(alloc),
             moves: 0,
-            known: Vec::new(alloc),
         })
     }
 
@@ -67,10 +66,9 @@ impl Case {
         let alloc = *self.lines.allocator();
         Ok(Case {
             decisions: copied_decisions(alloc, &self.decisions)?,
-            equations: copied_equations(alloc, &self.equations)?,
+            system: self.system.copy()?,
             lines: copied_lines(alloc, &self.lines)?,
             moves: self.moves,
-            known: copied_polys(alloc, &self.known)?,
         })
     }
 
@@ -96,21 +94,9 @@ impl Case {
         ensures answer { MatchResult result (λ at. IsReducedAt self.old q p var at self.new) (IsStepFault (poly self.old q) (poly self.old p) var) }
         ensures unchanged { OnErr result (self.new ≡ self.old) }
     {
-        let alloc = *self.lines.allocator();
         let before = self.lines.len();
-        let reduced = reduced(
-            alloc,
-            &self.known,
-            &self.equations,
-            q as usize,
-            p as usize,
-            var,
-            &mut self.lines,
-        );
-        match reduced {
-            Ok(rest) => {
-                let _reduced = self.equations.remove(q as usize);
-                let place = add_in_room(&mut self.equations, rest);
+        match reduced(&mut self.system, q, p, var, &mut self.lines) {
+            Ok(place) => {
                 self.moves += 1;
                 Ok(place)
             }
@@ -145,19 +131,14 @@ impl Case {
         requires { self.now.moves + 1 < 2 ^ 32 }
         ensures { IfOk result (λ c. IsNonzeroBranch self.now by.now c) }
     {
-        let alloc = *self.lines.allocator();
         let decisions = self.decided(by, false)?;
-        let mut known = copied_polys(alloc, &self.known)?;
-        known.push(by.copy()?)?;
-        let mut lines = copied_lines(alloc, &self.lines)?;
-        let stripped = strip_equations(alloc, &known, &self.equations, &mut lines)?;
-        let cleared = clear_equations(alloc, &known, stripped, &mut lines)?;
+        let mut lines = copied_lines(*self.lines.allocator(), &self.lines)?;
+        let system = self.system.with_condition(by, &mut lines)?;
         Ok(Case {
             decisions,
-            equations: in_order(alloc, cleared)?,
+            system,
             lines,
             moves: self.moves + 1,
-            known,
         })
     }
 
@@ -167,15 +148,13 @@ impl Case {
         requires { self.now.moves + 1 < 2 ^ 32 }
         ensures { IfOk result (λ c. IsZeroBranch self.now by.now c) }
     {
-        let alloc = *self.lines.allocator();
-        let mut equations = copied_equations(alloc, &self.equations)?;
-        add(&mut equations, self.zero_equation(by)?)?;
+        let mut system = self.system.copy()?;
+        system.add(self.zero_equation(by)?)?;
         Ok(Case {
             decisions: self.decided(by, true)?,
-            equations,
-            lines: copied_lines(alloc, &self.lines)?,
+            system,
+            lines: copied_lines(*self.lines.allocator(), &self.lines)?,
             moves: self.moves + 1,
-            known: copied_polys(alloc, &self.known)?,
         })
     }
 
@@ -198,25 +177,22 @@ impl Case {
         requires room { self.now.moves + 1 < 2 ^ 32 }
         ensures { IfOk result (λ c. IsTailBranch self.now by.now i c) }
     {
-        let alloc = *self.lines.allocator();
         let zero = self.zero_equation(by)?;
-        let mut lines = copied_lines(alloc, &self.lines)?;
+        let mut lines = copied_lines(*self.lines.allocator(), &self.lines)?;
         let made = Equation {
             poly: step.r.copy()?,
             item: Item::Line(lines.len() as u64),
         };
         lines.push(step_line(self.item_at(i), zero.item, step))?;
-        let rest = clear_equation(alloc, &self.known, made, &mut lines)?;
-        let mut equations = copied_equations(alloc, &self.equations)?;
-        let _reduced = equations.remove(i as usize);
-        add(&mut equations, zero)?;
-        add(&mut equations, rest)?;
+        let mut system = self.system.copy()?;
+        system.remove(i);
+        system.add(zero)?;
+        system.add_cleared(made, &mut lines)?;
         Ok(Case {
             decisions: self.decided(by, true)?,
-            equations,
+            system,
             lines,
             moves: self.moves + 1,
-            known: copied_polys(alloc, &self.known)?,
         })
     }
 
@@ -231,14 +207,14 @@ impl Case {
         };
         let _terms = poly.terms();
         let initial = poly.coefficient_in(var, poly.degree_in(var))?;
-        let parts = initial.clear(&self.known)?;
+        let parts = initial.clear(self.system.conditions())?;
         tail_step(
             *self.lines.allocator(),
             poly,
             var,
             &parts.factor,
             by,
-            &self.known,
+            self.system.conditions(),
         )
     }
 
@@ -261,7 +237,7 @@ impl Case {
         let decision = Item::Decision(self.decisions.len() as u64);
         Ok(Equation {
             poly: by.copy()?,
-            item: item_of(&self.equations, by, decision),
+            item: item_of(self.system.equations(), by, decision),
         })
     }
 
@@ -287,7 +263,7 @@ impl Case {
         ensures { result ≡ self.now.equations }
     {
         Equations {
-            list: &self.equations,
+            list: self.system.equations(),
         }
     }
 
@@ -309,7 +285,7 @@ impl Case {
     pub fn known(&self) -> &[Poly]
         ensures { result.now ≡ known self.now }
     {
-        &self.known
+        self.system.conditions()
     }
 }
 
@@ -343,32 +319,30 @@ fn step_line(from: Item, by: Item, step: Reduction) -> Line
     }
 }
 
-// Appends the line of a reduction and those that clear what it makes, and answers what takes the place of `q`. After a refusal some lines may
-// have been appended.
+// Reduces equation q by equation p. The line of the step and those that clear what it makes are appended, and what is left takes the place of q;
+// the answer is its place, where it is a new equation. After a refusal some lines may have been appended.
 fn reduced(
-    alloc: Global,
-    known: &[Poly],
-    equations: &[Equation],
-    q: usize,
-    p: usize,
+    system: &mut System,
+    q: u64,
+    p: u64,
     var: u32,
     lines: &mut Vec<Line>,
-) -> Result<Equation, PolyFault>
-    requires q_place { q < length equations.now }
-    requires p_place { p < length equations.now }
-    requires can { CanReduceBy (equation_at equations.now q).poly (equation_at equations.now p).poly var }
+) -> Result<Option<u64>, PolyFault>
+    requires q_place { q < length system.old.equations }
+    requires p_place { p < length system.old.equations }
+    requires can { CanReduceBy (equation_at system.old.equations q).poly (equation_at system.old.equations p).poly var }
     ensures grows { Grows lines.old.items lines.new.items }
-    ensures answer { MatchResult result (IsReducedBy known.now equations.now q p var lines.old.items lines.new.items) (IsStepFault (equation_at equations.now q).poly (equation_at equations.now p).poly var) }
+    ensures answer { MatchResult result (λ at. IsReducedBy system.old q p var lines.old.items lines.new.items at system.new) (IsStepFault (equation_at system.old.equations q).poly (equation_at system.old.equations p).poly var) }
+    ensures unchanged { OnErr result (system.new ≡ system.old) }
 {
-    let reduced = &equations[q];
-    let by = &equations[p];
-    let step = reduce_once(alloc, &reduced.poly, &by.poly, var, known)?;
-    let item = Item::Line(lines.len() as u64);
+    let alloc = *lines.allocator();
+    let reduced = &system.equations()[q as usize];
+    let by = &system.equations()[p as usize];
+    let step = reduce_once(alloc, &reduced.poly, &by.poly, var, system.conditions())?;
     let made = Equation {
         poly: step.r.copy()?,
-        item,
+        item: Item::Line(lines.len() as u64),
     };
     lines.push(step_line(reduced.item, by.item, step))?;
-    let rest = clear_equation(alloc, known, made, lines)?;
-    Ok(rest)
+    Ok(system.replace(q, made, lines)?)
 }

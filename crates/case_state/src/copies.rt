@@ -32,16 +32,6 @@ fn copied_line(line: &Line) -> Result<Line, AllocError>
     })
 }
 
-// An equal equation.
-fn copied_equation(equation: &Equation) -> Result<Equation, AllocError>
-    ensures { IfOk result (λ e. e ≡ equation.now) }
-{
-    Ok(Equation {
-        poly: equation.poly.copy()?,
-        item: equation.item,
-    })
-}
-
 /// Equal decisions. It fails only where no memory is left.
 pub fn copied_decisions(alloc: Global, decisions: &[Decision]) -> Result<Vec<Decision>, AllocError>
     ensures { IfOk result (λ v. v.items ≡ decisions.now) }
@@ -60,28 +50,6 @@ pub fn copied_lines(alloc: Global, lines: &[Line]) -> Result<Vec<Line>, AllocErr
     let mut copies = Vec::with_capacity(alloc, lines.len())?;
     for line in lines {
         copies.push(copied_line(line)?)?;
-    }
-    Ok(copies)
-}
-
-/// Equal equations. It fails only where no memory is left.
-pub fn copied_equations(alloc: Global, equations: &[Equation]) -> Result<Vec<Equation>, AllocError>
-    ensures { IfOk result (λ v. v.items ≡ equations.now) }
-{
-    let mut copies = Vec::with_capacity(alloc, equations.len())?;
-    for equation in equations {
-        copies.push(copied_equation(equation)?)?;
-    }
-    Ok(copies)
-}
-
-/// Equal polynomials. It fails only where no memory is left.
-pub fn copied_polys(alloc: Global, polys: &[Poly]) -> Result<Vec<Poly>, AllocError>
-    ensures { IfOk result (λ v. v.items ≡ polys.now) }
-{
-    let mut copies = Vec::with_capacity(alloc, polys.len())?;
-    for poly in polys {
-        copies.push(poly.copy()?)?;
     }
     Ok(copies)
 }

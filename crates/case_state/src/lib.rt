@@ -2,11 +2,10 @@
 #![tactic(auto)]
 
 mod case;
-mod clearing;
 mod copies;
-mod kept;
 mod shown;
 
 pub use case::Case;
-pub use copies::{copied_decisions, copied_lines, copied_polys};
+pub use case_system::copied_polys;
+pub use copies::{copied_decisions, copied_lines};
 pub use shown::{Decisions, Equations, Lines};

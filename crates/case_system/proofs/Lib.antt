@@ -1,0 +1,4 @@
+pub mod BeingCleared
+pub mod Counting
+mod Marking
+pub mod Placing

@@ -1,0 +1,30 @@
+use Rattle.std.proofs.Common.{◌++◌, ◌∷◌, [], sym, ◌∙◌, ap, subst}
+use Rattle.std.specs.List.{AllByRecursion}
+use Rattle.case_system.specs.declared.kept.Kept.{Kept}
+use Rattle.case_system.specs.Appending.{AreClearedBy, AreStrippedBy}
+use Rattle.case_system.specs.Clean.{IsBareTo, AreClean}
+use Rattle.case_system.specs.Kept.{equations_of}
+use Rattle.case_system.specs.Systems.{SystemState}
+use Rattle.case_system.proofs.Counting.{clean_more}
+use Rattle.case_system.proofs.system.System.with_condition.Goals as goal
+
+pub strip_equations-requires : goal.strip_equations-requires
+strip_equations-requires c =
+    subst (λ us. AreClean us c.self.inside.list.equations.items c.self.inside.list.clean.items) (sym (c.polys.ensures ∙ c.in_ok-conditions.ensures))
+    (clean_more c.self.inside.conditions (c.args.by.now ∷ []) c.self.inside.list.equations.items c.self.inside.list.clean.items c.self.invariant.clean)
+
+pub clear_equations-requires : goal.clear_equations-requires
+clear_equations-requires c = subst (λ us. AllByRecursion (λ (k : Kept). IsBareTo us k.equation.poly k.clean) c.in_ok-stripped.stripped.items) c.polys.ensures c.in_ok-stripped.ensures.bare
+
+pub returns : goal.returns
+returns c =
+    let more = c.self.inside.conditions ++ c.args.by.now ∷ [] in
+    let stripped = equations_of c.in_ok-stripped.stripped.items in
+    rw (← c.self.view_is) (record {
+      middle = c.strip_equations.new.lines.items;
+      stripped = stripped;
+      are_stripped = subst (λ us. AreStrippedBy us c.args.lines.now.items c.self.inside.list.equations.items c.strip_equations.new.lines.items stripped) (c.polys.ensures ∙ c.in_ok-conditions.ensures) c.in_ok-stripped.ensures.stripped;
+      cleared = c.in_ok-list.ensures.cleared.cleared;
+      are_cleared = subst (λ us. AreClearedBy us c.strip_equations.new.lines.items stripped c.clear_equations.new.lines.items c.in_ok-list.ensures.cleared.cleared) c.in_ok-conditions.ensures c.in_ok-list.ensures.cleared.are_cleared;
+      is = ap (λ us. let s : SystemState = record { conditions = us; equations = c.in_ok-list.list.equations.items } in s) c.in_ok-conditions.ensures ∙ ap (λ es. let s : SystemState = record { conditions = more; equations = es } in s) c.in_ok-list.ensures.cleared.is;
+    })

@@ -1,0 +1,6 @@
+pub mod Places
+pub mod Appending
+pub mod Marks
+pub mod Clean
+pub mod Kept
+pub mod Systems

@@ -1,0 +1,137 @@
+//! Lists of equations in order.
+ghost use Rattle.std.specs.Prelude.{◌≡◌, ◌<◌, List, IfOk, MatchResult, length, slice_set, vec_len, vec_capacity};
+ghost use Rattle.sparse_poly.specs.declared.Term.{Term};
+ghost use Rattle.case_rules.specs.Cases.{equation_at};
+ghost use Rattle.case_rules.specs.Kept.{older, added, item_of};
+ghost use Rattle.case_system.specs.Clean.{IsCleanTo, AreClean, with_count, IsCountPlace};
+ghost use Rattle.case_system.specs.Places.{Ascend, StandsAt, GoesTo, HasPlace};
+
+use case_rules::Equation;
+use derive_lines::{Item, is_same};
+use sparse_poly::Poly;
+use std::alloc::{AllocError, Global};
+
+// Where a polynomial stands among equations, or else where it goes.
+fn place_of(equations: &[Equation], poly: &Poly) -> Result<usize, usize>
+    requires { Ascend equations.now }
+    ensures { MatchResult result (StandsAt poly.now equations.now) (GoesTo poly.now equations.now) }
+{
+    equations.binary_search_by(|equation| equation.poly.order(poly))
+}
+
+// Of two items the older one.
+fn older(first: Item, second: Item) -> Item
+    ensures { result ≡ older first second }
+{
+    match first {
+        Item::Line(k) => match second {
+            Item::Line(n) => Item::Line(if n < k { n } else { k }),
+            Item::Root(_) => second,
+            Item::Decision(_) => second,
+        },
+        Item::Root(_) => first,
+        Item::Decision(_) => first,
+    }
+}
+
+// The equation at a place keeps the older of its item and another one.
+fn keep_older(equations: &mut [Equation], i: usize, item: Item)
+    requires { i < length equations.old }
+    ensures { equations.new ≡ slice_set equations.old i (record { poly = (equation_at equations.old i).poly; item = older (equation_at equations.old i).item item }) }
+{
+    equations[i].item = older(equations[i].item, item);
+}
+
+// Adds an equation at its place in the order, and answers the place of a polynomial that is new. Zero is dropped, and of two equations with one
+// polynomial the older item stays.
+fn add_equation(equations: &mut Vec<Equation>, equation: Equation) -> Option<u64>
+    requires room { vec_len equations.old < vec_capacity equations.old }
+    requires ascending { Ascend equations.old.items }
+    ensures added { equations.new.items ≡ added equation equations.old.items }
+    ensures place { HasPlace equation.poly equations.old.items result }
+{
+    if equation.poly.is_zero() {
+        return None;
+    }
+    match place_of(equations, &equation.poly) {
+        Ok(i) => {
+            keep_older(equations, i, equation.item);
+            None
+        }
+        Err(i) => {
+            let Ok(()) = equations.insert(i, equation) else {
+                unreachable!()
+            };
+            Some(i as u64)
+        }
+    }
+}
+
+// Adds a count where a new equation goes.
+fn add_count(counts: &mut Vec<usize>, place: Option<u64>, clean: usize)
+    requires room { vec_len counts.old < vec_capacity counts.old }
+    requires place { IsCountPlace place counts.old.items }
+    ensures { counts.new.items ≡ with_count place clean counts.old.items }
+{
+    if let Some(i) = place {
+        let Ok(()) = counts.insert(i as usize, clean) else {
+            unreachable!()
+        };
+    }
+}
+
+/// An equation, and under how many of the known conditions, from the oldest on, it is known to be clean.
+#[derive(Drop)]
+pub struct Kept {
+    pub equation: Equation,
+    pub clean: usize,
+}
+
+/// Equations, and for each under how many of the known conditions, from the oldest on, it is known to be clean.
+#[derive(Drop)]
+pub struct KeptList {
+    pub equations: Vec<Equation>,
+    pub clean: Vec<usize>,
+}
+
+/// Adds an equation at its place in the order, and answers the place of a polynomial that is new. Zero is dropped, and of two equations with
+/// one polynomial the older item stays.
+pub fn add_in_room(list: &mut KeptList, kept: Kept) -> Option<u64>
+    requires room { vec_len list.old.equations < vec_capacity list.old.equations }
+    requires count_room { vec_len list.old.clean < vec_capacity list.old.clean }
+    requires ascending { Ascend list.old.equations.items }
+    requires counts { length list.old.clean.items ≡ length list.old.equations.items }
+    ensures added { list.new.equations.items ≡ added kept.equation list.old.equations.items }
+    ensures place { HasPlace kept.equation.poly list.old.equations.items result }
+    ensures clean { (units : List (List Term)) → AreClean units list.old.equations.items list.old.clean.items → IsCleanTo units kept.equation.poly kept.clean → AreClean units list.new.equations.items list.new.clean.items }
+{
+    let place = add_equation(&mut list.equations, kept.equation);
+    add_count(&mut list.clean, place, kept.clean);
+    place
+}
+
+/// The same, where room may be wanting. It fails only where no memory is left.
+pub fn add(list: &mut KeptList, kept: Kept) -> Result<(), AllocError>
+    requires ascending { Ascend list.old.equations.items }
+    requires counts { length list.old.clean.items ≡ length list.old.equations.items }
+    ensures added { IfOk result (λ _. list.new.equations.items ≡ added kept.equation list.old.equations.items) }
+    ensures ascending { Ascend list.new.equations.items }
+    ensures clean { (units : List (List Term)) → AreClean units list.old.equations.items list.old.clean.items → IsCleanTo units kept.equation.poly kept.clean → AreClean units list.new.equations.items list.new.clean.items }
+{
+    list.equations.reserve(1)?;
+    list.clean.reserve(1)?;
+    let _place = add_in_room(list, kept);
+    Ok(())
+}
+
+/// The item of a polynomial among equations, and another item where it does not stand there.
+pub fn item_of(equations: &[Equation], poly: &Poly, other: Item) -> Item
+    ensures { result ≡ item_of poly.now other equations.now }
+{
+    for equation in equations {
+        if is_same(&equation.poly, poly) {
+            return equation.item;
+        }
+    }
+    other
+}

@@ -1,0 +1,13 @@
+//! Equations of a case and the known conditions, which are stripped off and divided out of them.
+#![tactic(auto)]
+
+mod clearing;
+mod conditions;
+mod copies;
+mod kept;
+mod system;
+
+pub use conditions::Conditions;
+pub use copies::copied_polys;
+pub use kept::item_of;
+pub use system::System;

@@ -1,0 +1,142 @@
+//! Equations under known conditions.
+ghost use Rattle.std.specs.Prelude.{◌≡◌, ◌<◌, [], IfOk, OnErr, length, remove};
+ghost use Rattle.case_rules.specs.Kept.{added};
+ghost use Rattle.case_system.specs.Appending.{Grows};
+ghost use Rattle.case_system.specs.Clean.{IsBare};
+ghost use Rattle.case_system.specs.Places.{Ascend};
+
+use crate::clearing::{clear_equation, clear_equations, strip_equations};
+use crate::conditions::Conditions;
+use crate::copies::copied_list;
+use crate::kept::{Kept, KeptList, add, add_in_room};
+use case_rules::Equation;
+use derive_lines::Line;
+use sparse_poly::Poly;
+use std::alloc::{AllocError, Global};
+use std::marker::Model;
+
+/// Equations with their items, in ascending order, and the known conditions, the oldest first.
+#[derive(Drop)]
+pub struct System {
+    conditions: Conditions,
+    list: KeptList,
+}
+
+impl Model for System {
+    ghost use Rattle.case_system.specs.Systems.{SystemState};
+    ghost use Rattle.case_system.specs.Clean.{IsKept};
+
+    ghost Value = { SystemState };
+
+    ghost view = { λ s. record { conditions = s.conditions; equations = s.list.equations.items } };
+
+    ghost invariant = { λ s. IsKept s.conditions s.list.equations.items s.list.clean.items };
+}
+
+impl System {
+    ghost use Rattle.case_system.specs.Systems.{with_equations, IsAddedCleared, IsReplaced, HasCondition};
+
+    /// Equations with no known condition. It fails only where no memory is left.
+    pub fn new(alloc: Global, equations: Vec<Equation>) -> Result<System, AllocError>
+        requires { Ascend equations.items }
+        ensures { IfOk result (λ s. s ≡ record { conditions = []; equations = equations.items }) }
+    {
+        let clean = vec![in alloc; 0; equations.len()]?;
+        Ok(System {
+            conditions: Conditions::new(alloc),
+            list: KeptList { equations, clean },
+        })
+    }
+
+    /// Equal equations under equal conditions. It fails only where no memory is left.
+    pub fn copy(&self) -> Result<System, AllocError>
+        ensures { IfOk result (λ s. s ≡ self.now) }
+    {
+        Ok(System {
+            conditions: self.conditions.copy()?,
+            list: copied_list(&self.list)?,
+        })
+    }
+
+    /// The known conditions, the oldest first.
+    pub fn conditions(&self) -> &[Poly]
+        ensures { result.now ≡ self.now.conditions }
+    {
+        self.conditions.polys()
+    }
+
+    /// The equations, in ascending order.
+    pub fn equations(&self) -> &[Equation]
+        ensures { result.now ≡ self.now.equations }
+    {
+        &self.list.equations
+    }
+
+    /// Removes the equation at a place.
+    pub fn remove(&mut self, i: u64)
+        requires { i < length self.old.equations }
+        ensures { self.new ≡ with_equations self.old (remove self.old.equations i) }
+    {
+        let _removed = self.list.equations.remove(i as usize);
+        let _count = self.list.clean.remove(i as usize);
+    }
+
+    /// Adds an equation at its place in the order. Zero is dropped, and of two equations with one polynomial the older item stays. It fails only
+    /// where no memory is left.
+    pub fn add(&mut self, equation: Equation) -> Result<(), AllocError>
+        ensures { IfOk result (λ _. self.new ≡ with_equations self.old (added equation self.old.equations)) }
+    {
+        add(&mut self.list, Kept { equation, clean: 0 })
+    }
+
+    /// Clears an equation, which is stripped, of the known conditions, with the lines for it, and adds what is left. It fails only where no memory
+    /// is left; then some lines may have been appended.
+    pub fn add_cleared(
+        &mut self,
+        equation: Equation,
+        lines: &mut Vec<Line>,
+    ) -> Result<(), AllocError>
+        requires { IsBare self.old.conditions equation.poly }
+        ensures { IfOk result (λ _. IsAddedCleared self.old lines.old.items equation lines.new.items self.new) }
+    {
+        let alloc = *lines.allocator();
+        let kept = Kept { equation, clean: 0 };
+        let rest = clear_equation(alloc, &self.conditions, kept, lines)?;
+        add(&mut self.list, rest)
+    }
+
+    /// Clears an equation, which is stripped, of the known conditions, with the lines for it, and adds what is left in place of equation `q`. The
+    /// answer is the place of what is left, where it is a new equation. It fails only where no memory is left; then some lines may have been
+    /// appended, and the equations are unchanged.
+    pub fn replace(
+        &mut self,
+        q: u64,
+        equation: Equation,
+        lines: &mut Vec<Line>,
+    ) -> Result<Option<u64>, AllocError>
+        requires place { q < length self.old.equations }
+        requires stripped { IsBare self.old.conditions equation.poly }
+        ensures grows { Grows lines.old.items lines.new.items }
+        ensures replaced { IfOk result (λ at. IsReplaced self.old q lines.old.items equation lines.new.items at self.new) }
+        ensures unchanged { OnErr result (self.new ≡ self.old) }
+    {
+        let alloc = *lines.allocator();
+        let kept = Kept { equation, clean: 0 };
+        let rest = clear_equation(alloc, &self.conditions, kept, lines)?;
+        let _replaced = self.list.equations.remove(q as usize);
+        let _count = self.list.clean.remove(q as usize);
+        Ok(add_in_room(&mut self.list, rest))
+    }
+
+    /// The same equations with one more known condition: all are stripped, in their order, and then all are cleared, with the lines for it. It
+    /// fails only where no memory is left; then some lines may have been appended.
+    pub fn with_condition(&self, by: &Poly, lines: &mut Vec<Line>) -> Result<System, AllocError>
+        ensures { IfOk result (λ s. HasCondition self.now by.now lines.old.items lines.new.items s) }
+    {
+        let alloc = *lines.allocator();
+        let conditions = self.conditions.with(by)?;
+        let stripped = strip_equations(alloc, conditions.polys(), &self.list, lines)?;
+        let list = clear_equations(alloc, &conditions, stripped, lines)?;
+        Ok(System { conditions, list })
+    }
+}
