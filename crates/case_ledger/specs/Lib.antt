@@ -5,3 +5,4 @@ pub mod Nodes
 pub mod Entries
 pub mod Agreeing
 pub mod CaseLaws
+pub mod Origins

@@ -2,5 +2,5 @@ mod Pairs
 mod Cases
 mod Grown
 mod PlainTree
-mod Serial
+pub mod Serial
 mod Works

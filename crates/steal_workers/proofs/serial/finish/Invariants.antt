@@ -1,7 +1,7 @@
 use Rattle.case_history.specs.History.{IsLeastPending}
 use Rattle.legal_history.specs.Work.{work_left}
 use Rattle.case_ledger.specs.Board.{GoesOn}
-use Rattle.steal_workers.proofs.finish.Given as goal
+use Rattle.steal_workers.proofs.serial.finish.Given as goal
 
 -- the board has gone on from what it was
 abbrev pub invariant-loop-n : goal.invariant-loop-n
