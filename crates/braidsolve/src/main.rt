@@ -1,4 +1,4 @@
-//! Reads a problem from standard input and writes its certificate to standard output.
+//! Reads a problem from standard input, or makes one where the words say so, and writes its certificate or the summary of it to standard output.
 //!
 //! The one line that tells how the run ended goes to standard error.
 #![tactic(auto)]
@@ -9,13 +9,14 @@ use solve_run::{Status, UsageKind, exit_code, run, status_line};
 use std::io::ErrorKind;
 use std::process::ExitCode;
 use std::{env, io};
+use steal_workers::OpenGate;
 
 fn main(rt: HostRuntime) -> ExitCode {
     let status = match words(&rt) {
         Ok(words) => {
             let mut source = StdSource::new(rt.stdin());
             let mut sink = StdSink::new(rt.stdout());
-            run::<Rationals, _, _>(rt.alloc(), &words, &mut source, &mut sink)
+            run::<Rationals, _, _, _, _>(&rt, rt.alloc(), &words, &mut source, &mut sink, &OpenGate)
         }
         // A word that is no UTF-8 is a faulty command line.
         Err(fault) if fault.kind() == ErrorKind::InvalidData => Status::Usage(UsageKind::Words),

@@ -1,6 +1,6 @@
 -- A written certificate is read and accepted.
-use Rattle.std.specs.Prelude.{◌≡◌, ◌≤◌, ℕ, List, Option, Some, ◌++◌, length}
-use Rattle.std.proofs.Common.{sym, subst}
+use Rattle.std.specs.Prelude.{◌≡◌, ◌≤◌, ℕ, Bool, false, List, Option, None, Some, ◌++◌, length}
+use Rattle.std.proofs.Common.{sym, ◌∙◌, ap, subst}
 use Rattle.std.proofs.lemmas.List.{append_cancel_left}
 use Rattle.std.specs.Io.KnownBytes.{Appends}
 use Rattle.field_laws.specs.Field.{Field}
@@ -8,8 +8,9 @@ use Rattle.braid_io.specs.declared.whole.ReadStop.{ReadStop}
 use Rattle.braid_io.specs.declared.whole.ReadStop.TheVariants as reading
 use Rattle.leaf_cert.specs.declared.certificate.Certificate.{Certificate as Checked}
 use Rattle.ring_file.specs.Problems.{Stated}
+use Rattle.ring_file.specs.Reading.{IsProblemOf}
 use Rattle.root_system.specs.Forms.{RootEquations}
-use Rattle.root_input.specs.Streams.{Stream, TellsAll, ReadsAll, max_problem_bytes}
+use Rattle.root_input.specs.Streams.{Stream, Tells, ReadsAll, max_problem_bytes}
 use Rattle.root_input.specs.Inputs.{HasRoot}
 use Rattle.root_input.specs.declared.fault.RootStop.{RootStop}
 use Rattle.root_input.specs.declared.fault.RootStop.TheVariants as rooted
@@ -24,8 +25,14 @@ use Rattle.cert_text.specs.Sentences.{certificate_text}
 use Rattle.cert_read.specs.Faults.{IsCertFault}
 use Rattle.cert_read.specs.declared.reader.CertFault.{CertFault}
 use Rattle.cert_read.specs.declared.reader.CertFault.TheVariants.{OutOfMemory as no_text_memory}
+use Rattle.ring_make.specs.Made.{IsPointed}
+use Rattle.run_words.specs.Words.{IsSettings}
+use Rattle.run_words.specs.declared.settings.Made.{Made}
+use Rattle.run_words.specs.declared.settings.Made.TheVariants.{Cyclic, Cube}
+use Rattle.run_words.specs.declared.settings.Settings.{Settings}
+use Rattle.solve_run.specs.Problems.{IsMadeProblem, GivesRoot}
 use Rattle.solve_run.specs.Statuses.{input_status}
-use Rattle.solve_run.specs.Outcomes.{Refuses, Certifies, Ends, by_words, by_source, by_leaves, by_open_leaves, by_sink}
+use Rattle.solve_run.specs.Outcomes.{Refuses, Certifies, Ends, output_text, by_words, by_source, by_leaves, by_open_leaves, by_sink, by_memory as by_run_memory}
 use Rattle.solve_run.specs.declared.status.Status.{Status}
 use Rattle.solve_run.specs.declared.status.Status.TheVariants.{Done, Open}
 use Rattle.check_run.specs.Statuses.{read_status, root_status, text_status, verdict_status}
@@ -38,11 +45,13 @@ use Rattle.check_run.specs.declared.status.Verdict.{Verdict}
 use Rattle.check_run.specs.declared.status.Verdict.TheVariants as verdict
 use Rattle.check_run.specs.declared.status.CheckStatus.{CheckStatus}
 use Rattle.check_run.specs.declared.status.CheckStatus.TheVariants.{OutOfMemory}
-use Rattle.check_laws.specs.Written.{WroteAll, done, some_open, Wrote, IsGiven, IsNeverRefused}
+use Rattle.check_laws.specs.Written.{WroteAll, done, some_open, IsSameProblem, Wrote, IsGiven, IsNeverRefused}
 
 -- what the laws of inputs, texts and checks say
 pub record AreOneReading : Type 0 where
-  pub read : (limit : ℕ) (source : Stream) (bytes all : List ℕ) → TellsAll source bytes → ReadsAll limit source all → all ≡ bytes
+  pub read : (limit : ℕ) (source : Stream) (bytes all : List ℕ) → Tells source bytes → ReadsAll limit source all → all ≡ bytes
+  pub one_settings : (words : List (List ℕ)) (s t : Settings) → IsSettings words s → IsSettings words t → s ≡ t
+  pub one_made : (n : ℕ) (product : ℕ → ℕ → ℕ) (p q : Stated) → IsPointed n product p → IsPointed n product q → p ≡ q
   pub one_root : (bytes : List ℕ) (p q : Stated) (root twin : RootEquations) → HasRoot bytes p root → HasRoot bytes q twin → root ≡ twin
   pub one_text : (text : List ℕ) (c d : Checked) → IsText text c → IsText text d → c ≡ d
   pub no_fault : (text : List ℕ) (c : Checked) (fault : CertFault) → IsText text c → IsCertFault text fault → fault ≡ no_text_memory
@@ -61,8 +70,8 @@ pub record IsWritten (bytes text : List ℕ) (leaves opens : ℕ) : Type 0 where
 -- ---- what was written
 
 -- no refusal of the source writes all
-not_refused : (source : Stream) (status : Status) (leaves opens : ℕ) → Refuses source status → WroteAll status leaves opens → ⊥
-not_refused source result leaves opens refused wrote = no_whole refused.fault (subst (λ (s : Status). WroteAll s leaves opens) refused.becomes wrote)
+not_refused : (source : Stream) (made : Option Made) (status : Status) (leaves opens : ℕ) → Refuses source made status → WroteAll status leaves opens → ⊥
+not_refused source made result leaves opens refused wrote = no_whole refused.fault (subst (λ (s : Status). WroteAll s leaves opens) refused.becomes wrote)
   where
     no_whole : (fault : InputFault) → WroteAll (input_status fault) leaves opens → ⊥
     no_whole input.ReadFault h = elim h [ ]
@@ -80,10 +89,11 @@ are_open f words source IsWrite n o leaves opens (some_open m p) c = c
 
 certifies : {E : Type 0} (f : Field E) (words : List (List ℕ)) (source sink : Stream) (status : Status) (leaves opens : ℕ) → Ends f words source sink status → WroteAll status leaves opens → Certifies f words source (Appends sink.before sink.after) leaves opens
 certifies f words source sink result leaves opens (by_words kind is) wrote = elim wrote [ ]
-certifies f words source sink result leaves opens (by_source budget status is refused) wrote = absurd (not_refused source status leaves opens refused wrote)
+certifies f words source sink result leaves opens (by_source settings status is refused) wrote = absurd (not_refused source settings.made status leaves opens refused wrote)
 certifies f words source sink result leaves opens (by_leaves n c) wrote = none_open f words source (Appends sink.before sink.after) n leaves opens wrote c
 certifies f words source sink result leaves opens (by_open_leaves n o some c) wrote = are_open f words source (Appends sink.before sink.after) n o leaves opens wrote c
 certifies f words source sink result leaves opens (by_sink n o rose c) wrote = elim wrote [ ]
+certifies f words source sink result leaves opens by_run_memory wrote = elim wrote [ ]
 
 -- what was appended
 appended : (before after : Option (List ℕ)) (earlier text all : List ℕ) → before ≡ Some earlier → after ≡ Some (earlier ++ text) → Appends before after all → text ≡ all
@@ -91,18 +101,35 @@ appended before after earlier text all b a h =
     let told : Appends (Some earlier) (Some (earlier ++ text)) all = subst (λ (o : Option (List ℕ)). Appends o (Some (earlier ++ text)) all) b (subst (λ (o : Option (List ℕ)). Appends before o all) a h) in
     append_cancel_left earlier text all told
 
+same_problem : AreOneReading → (made : Made) (p q : Stated) → IsMadeProblem made p → IsMadeProblem made q → p ≡ q
+same_problem laws (Cyclic n) p q is are = laws.one_made n _ p q is are
+same_problem laws (Cube k) p q is are = laws.one_made _ _ p q is are
+
+-- the bytes of the run's problem have its root
+same_root : AreOneReading → (made : Option Made) (source : Stream) (bytes : List ℕ) (p : Stated) (root : RootEquations) → IsSameProblem made source bytes → GivesRoot source made p root → (length bytes ≤ max_problem_bytes) × HasRoot bytes p root
+same_root laws None source bytes p root tells gives =
+    let same = laws.read max_problem_bytes source bytes gives.0 tells gives.1.reads in
+    (subst (λ (b : List ℕ). length b ≤ max_problem_bytes) same gives.1.reads.short, subst (λ (b : List ℕ). HasRoot b p root) same gives.1.has_root)
+same_root laws (Some made) source bytes p root states gives =
+    let same = same_problem laws made states.0 p states.2 gives.1.is_made in
+    (states.1.0, record { is_problem = subst (λ (q : Stated). IsProblemOf bytes q) same states.1.1; is_root = gives.1.is_root })
+
 pub is_written : AreOneReading → {E : Type 0} (f : Field E) (words : List (List ℕ)) (source sink : Stream) (status : Status) (leaves opens : ℕ) (bytes text : List ℕ)
-    → Ends f words source sink status → WroteAll status leaves opens → Wrote source sink bytes text → IsWritten bytes text leaves opens
+    → Ends f words source sink status → WroteAll status leaves opens → Wrote words source sink bytes text → IsWritten bytes text leaves opens
 is_written laws f words source sink status leaves opens bytes text ends all wrote =
     let c = certifies f words source sink status leaves opens ends all in
-    let same = laws.read max_problem_bytes source bytes c.bytes wrote.tells c.states.reads in
+    let settings = laws.one_settings words c.settings wrote.settings c.are_settings wrote.are_settings in
+    let plain : c.settings.summary ≡ false = ap (λ (s : Settings). s.summary) settings ∙ wrote.no_summary in
+    let gives = subst (λ (s : Settings). GivesRoot source s.made c.problem c.root) settings c.gives in
+    let has = same_root laws wrote.settings.made source bytes c.problem c.root wrote.same_problem gives in
+    let writes = subst (λ (b : Bool). Appends sink.before sink.after (output_text b c.certificate)) plain c.writes in
     record {
       stated = c.problem;
       root = c.root;
       checked = c.certificate;
-      short = subst (λ (b : List ℕ). length b ≤ max_problem_bytes) same c.states.reads.short;
-      has_root = subst (λ (b : List ℕ). HasRoot b c.problem c.root) same c.states.has_root;
-      is_text = record { fits = c.fits; spelled = appended sink.before sink.after wrote.earlier text (certificate_text c.certificate) wrote.before wrote.after c.writes };
+      short = has.0;
+      has_root = has.1;
+      is_text = record { fits = c.fits plain; spelled = appended sink.before sink.after wrote.earlier text (certificate_text c.certificate) wrote.before wrote.after writes };
       accepts = record { accepted = c.searched.accepted; leaves_are = c.leaves_are; opens_are = c.opens_are };
     }
 

@@ -7,7 +7,7 @@ use Rattle.braid_io.specs.declared.whole.ReadStop.TheVariants.{Fault, TooLong as
 use Rattle.leaf_cert.specs.declared.certificate.Certificate.{Certificate as Checked}
 use Rattle.ring_file.specs.Problems.{Stated}
 use Rattle.root_system.specs.Forms.{RootEquations}
-use Rattle.root_input.specs.Streams.{Stream, TellsAll, ReadsAll, IsReadStop, max_problem_bytes}
+use Rattle.root_input.specs.Streams.{Stream, Tells, TellsAll, ReadsAll, IsReadStop, max_problem_bytes}
 use Rattle.root_input.specs.Inputs.{HasRoot, IsRootStop}
 use Rattle.root_input.specs.declared.fault.RootStop.{RootStop}
 use Rattle.root_input.specs.declared.fault.RootStop.TheVariants as stop
@@ -34,8 +34,8 @@ use Rattle.check_run.specs.declared.status.CheckStatus.TheVariants.{Usage, Probl
 
 -- what the laws of inputs, texts and checks say
 pub record AreOneAnswer : Type 0 where
-  pub read : (limit : ℕ) (source : Stream) (bytes all : List ℕ) → TellsAll source bytes → ReadsAll limit source all → all ≡ bytes
-  pub over : (limit : ℕ) (source : Stream) (bytes : List ℕ) → TellsAll source bytes → IsReadStop limit source long → limit < length bytes
+  pub read : (limit : ℕ) (source : Stream) (bytes all : List ℕ) → Tells source bytes → ReadsAll limit source all → all ≡ bytes
+  pub over : (limit : ℕ) (source : Stream) (bytes : List ℕ) → Tells source bytes → IsReadStop limit source long → limit < length bytes
   pub one_root : (bytes : List ℕ) (p q : Stated) (root twin : RootEquations) → HasRoot bytes p root → HasRoot bytes q twin → root ≡ twin
   pub no_stop : (bytes : List ℕ) (p : Stated) (root : RootEquations) (why : RootStop) → HasRoot bytes p root → IsRootStop bytes why → why ≡ stop.OutOfMemory
   pub one_stop : (bytes : List ℕ) (why other : RootStop) → IsRootStop bytes why → IsRootStop bytes other → why ≢ stop.OutOfMemory → other ≢ stop.OutOfMemory → why ≡ other
@@ -118,16 +118,16 @@ one_answer laws p c s t (with_verdict v short is) (with_verdict w few are) = ap 
 -- why a source that told its bytes and had no fault was not read
 problem_unread : AreOneAnswer → (source : Stream) (p c : List ℕ) (why : ReadStop) → TellsAll source p → IsReadStop max_problem_bytes source why → (read_status which.Problem why ≡ OutOfMemory) ⊎ IsAnswer p c (read_status which.Problem why)
 problem_unread laws source p c Fault tells is = absurd (tells.quiet is.0)
-problem_unread laws source p c long tells is = inr (long_problem (laws.over max_problem_bytes source p tells is))
+problem_unread laws source p c long tells is = inr (long_problem (laws.over max_problem_bytes source p tells.told is))
 problem_unread laws source p c no_read_memory tells is = inl refl
 
 certificate_unread : AreOneAnswer → (source : Stream) (p c : List ℕ) (why : ReadStop) → length p ≤ max_problem_bytes → TellsAll source c → IsReadStop max_certificate_bytes source why → (read_status which.Certificate why ≡ OutOfMemory) ⊎ IsAnswer p c (read_status which.Certificate why)
 certificate_unread laws source p c Fault short tells is = absurd (tells.quiet is.0)
-certificate_unread laws source p c long short tells is = inr (long_certificate short (laws.over max_certificate_bytes source c tells is))
+certificate_unread laws source p c long short tells is = inr (long_certificate short (laws.over max_certificate_bytes source c tells.told is))
 certificate_unread laws source p c no_read_memory short tells is = inl refl
 
 -- where all bytes were read, they are those that were told, and so they are short
-read_short : AreOneAnswer → (limit : ℕ) (source : Stream) (bytes all : List ℕ) → TellsAll source bytes → ReadsAll limit source all → length bytes ≤ limit
+read_short : AreOneAnswer → (limit : ℕ) (source : Stream) (bytes all : List ℕ) → Tells source bytes → ReadsAll limit source all → length bytes ≤ limit
 read_short laws limit source bytes all tells reads = subst (λ (b : List ℕ). length b ≤ limit) (laws.read limit source bytes all tells reads) reads.short
 
 -- there is no verdict: for want of memory, or the bytes say why
@@ -153,23 +153,23 @@ unjudged_ends laws problem certificate sink p c result well (stops_at_problem st
     subst (λ (s : CheckStatus). (s ≡ OutOfMemory) ⊎ IsAnswer p c s) (sym not.status_is) (problem_unread laws problem p c not.stop well.tells_problem not.is)
 unjudged_ends laws problem certificate sink p c result well (stops_at_certificate bytes status reads not) =
     subst (λ (s : CheckStatus). (s ≡ OutOfMemory) ⊎ IsAnswer p c s) (sym not.status_is)
-    (certificate_unread laws certificate p c not.stop (read_short laws max_problem_bytes problem p bytes well.tells_problem reads) well.tells_certificate not.is)
+    (certificate_unread laws certificate p c not.stop (read_short laws max_problem_bytes problem p bytes well.tells_problem.told reads) well.tells_certificate not.is)
 unjudged_ends laws problem certificate sink p c result well (has_no_verdict first second status reads are none) =
-    let p_is = laws.read max_problem_bytes problem p first well.tells_problem reads in
-    let c_is = laws.read max_certificate_bytes certificate c second well.tells_certificate are in
+    let p_is = laws.read max_problem_bytes problem p first well.tells_problem.told reads in
+    let c_is = laws.read max_certificate_bytes certificate c second well.tells_certificate.told are in
     let short : AreShort p c = record {
-      problem_is = read_short laws max_problem_bytes problem p first well.tells_problem reads;
-      certificate_is = read_short laws max_certificate_bytes certificate c second well.tells_certificate are;
+      problem_is = read_short laws max_problem_bytes problem p first well.tells_problem.told reads;
+      certificate_is = read_short laws max_certificate_bytes certificate c second well.tells_certificate.told are;
     } in
     unjudged laws p c status short (subst (λ (b : List ℕ). HasNoVerdict p b status) c_is (subst (λ (b : List ℕ). HasNoVerdict b second status) p_is none))
 
 judged_ends : AreOneAnswer → {E : Type 0} (f : Field E) (problem certificate sink : Stream) (p c : List ℕ) (v : Verdict) → GoesWell problem certificate sink p c → Judges f problem certificate v → IsAnswer p c (verdict_status v)
 judged_ends laws f problem certificate sink p c v well judged =
-    let p_is = laws.read max_problem_bytes problem p judged.problem_bytes well.tells_problem judged.reads_problem in
-    let c_is = laws.read max_certificate_bytes certificate c judged.certificate_bytes well.tells_certificate judged.reads_certificate in
+    let p_is = laws.read max_problem_bytes problem p judged.problem_bytes well.tells_problem.told judged.reads_problem in
+    let c_is = laws.read max_certificate_bytes certificate c judged.certificate_bytes well.tells_certificate.told judged.reads_certificate in
     let short : AreShort p c = record {
-      problem_is = read_short laws max_problem_bytes problem p judged.problem_bytes well.tells_problem judged.reads_problem;
-      certificate_is = read_short laws max_certificate_bytes certificate c judged.certificate_bytes well.tells_certificate judged.reads_certificate;
+      problem_is = read_short laws max_problem_bytes problem p judged.problem_bytes well.tells_problem.told judged.reads_problem;
+      certificate_is = read_short laws max_certificate_bytes certificate c judged.certificate_bytes well.tells_certificate.told judged.reads_certificate;
     } in
     with_verdict v short (subst (λ (b : List ℕ). IsVerdict p b v) c_is (subst (λ (b : List ℕ). IsVerdict b judged.certificate_bytes v) p_is judged.is_verdict))
 

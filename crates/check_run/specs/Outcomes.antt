@@ -8,7 +8,7 @@ use Rattle.leaf_cert.specs.Leaves.{Meets}
 use Rattle.leaf_cert.specs.declared.certificate.Certificate.{Certificate}
 use Rattle.ring_file.specs.Problems.{Stated}
 use Rattle.root_system.specs.Solution.{Solution}
-use Rattle.root_input.specs.Streams.{Stream, ReadsAll, IsReadStop, max_problem_bytes}
+use Rattle.root_input.specs.Streams.{Stream, ReadsAll, IsReadStop, IsUntouched, max_problem_bytes}
 use Rattle.case_history.specs.JustOne.{MeetsJustOneLeaf}
 use Rattle.check_run.specs.Statuses.{read_status, verdict_status}
 use Rattle.check_run.specs.Lines.{verdict_line}
@@ -48,11 +48,6 @@ pub record Judges {E : Type 0} (f : Field E) (problem certificate : Stream) (ver
   pub reads_certificate : ReadsAll max_certificate_bytes certificate certificate_bytes
   pub is_verdict : IsVerdict problem_bytes certificate_bytes verdict
   pub covers : (leaves opens : ℕ) → verdict ≡ Accepted leaves opens → Covers f is_verdict.stated is_verdict.checked
-
--- nothing was taken from the source, and it had no fault
-pub record IsUntouched (source : Stream) : Type 0 where
-  pub same : source.after ≡ source.before
-  pub quiet : source.faults_after ≡ source.faults_before
 
 -- Why both inputs get no verdict.
 pub data IsUnjudged (problem certificate : Stream) : CheckStatus → Type 0 where

@@ -36,7 +36,16 @@ IsReadStop limit source OutOfMemory = Unit {0}
 abbrev pub TakesSome : Stream → Type 0
 TakesSome source = (bytes : List ℕ) × Consumes source.before source.after bytes
 
+-- nothing was taken from the source, and it had no fault
+pub record IsUntouched (source : Stream) : Type 0 where
+  pub same : source.after ≡ source.before
+  pub quiet : source.faults_after ≡ source.faults_before
+
+-- the source told these bytes
+abbrev pub Tells : Stream → List ℕ → Type 0
+Tells source bytes = source.before ≡ Some bytes
+
 -- the source told these bytes, and no read failed
 pub record TellsAll (source : Stream) (bytes : List ℕ) : Type 0 where
-  pub told : source.before ≡ Some bytes
+  pub told : Tells source bytes
   pub quiet : ¬ Rose source.faults_before source.faults_after

@@ -2,19 +2,19 @@
 
 ghost use Rattle.std.specs.Prelude.{◌≡◌, ◌≢◌, ◌<◌, length};
 ghost use Rattle.braid_io.specs.declared.whole.ReadStop.TheVariants.{TooLong, OutOfMemory as no_read_memory};
-ghost use Rattle.root_input.specs.Streams.{TellsAll, ReadsAll, IsReadStop};
+ghost use Rattle.root_input.specs.Streams.{Tells, TellsAll, ReadsAll, IsReadStop};
 ghost use Rattle.root_input.specs.Inputs.{HasRoot, IsRootStop};
 ghost use Rattle.root_input.specs.declared.fault.RootStop.TheVariants.{OutOfMemory};
 
 use ring_file::problem_answer_law;
 use root_system::root_answer_law;
 
-/// Where a source told its bytes and no read failed, these are the bytes that were read, if all were; and it was not read to its end only where it
-/// told more than the limit, or for want of memory.
+/// Where a source told its bytes, these are the bytes that were read, if all were; and it was refused as too long only where they are more than the
+/// limit. Where also no read failed, it was not read to its end only for this, or for want of memory.
 pub fn reading_law()
-    ensures read { (limit source bytes all : _) → TellsAll source bytes → ReadsAll limit source all → all ≡ bytes }
+    ensures read { (limit source bytes all : _) → Tells source bytes → ReadsAll limit source all → all ≡ bytes }
     ensures long { (limit source bytes stop : _) → TellsAll source bytes → IsReadStop limit source stop → stop ≢ no_read_memory → stop ≡ TooLong }
-    ensures over { (limit source bytes : _) → TellsAll source bytes → IsReadStop limit source TooLong → limit < length bytes }
+    ensures over { (limit source bytes : _) → Tells source bytes → IsReadStop limit source TooLong → limit < length bytes }
 {}
 
 /// Bytes have one root or one cause why they have none, and not both, but for want of memory.

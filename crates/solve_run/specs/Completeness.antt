@@ -1,27 +1,31 @@
 -- What a run answers where nothing fails.
-use Rattle.std.specs.Prelude.{◌≡◌, ◌≤◌, ◌⊎◌, ℕ, List, length}
+use Rattle.std.specs.Prelude.{◌≡◌, ◌⊎◌, ℕ, Option, None, Some, List}
 use Rattle.braid_io.specs.Causes.{Rose}
 use Rattle.ring_file.specs.Problems.{Stated}
-use Rattle.root_system.specs.Forms.{RootEquations}
-use Rattle.root_input.specs.Streams.{Stream, TellsAll, max_problem_bytes}
-use Rattle.root_input.specs.Inputs.{HasRoot}
-use Rattle.solve_run.specs.Words.{IsBudgetOf}
+use Rattle.root_system.specs.Forms.{RootEquations, max_equations}
+use Rattle.root_system.specs.Root.{IsRootOf}
+use Rattle.root_input.specs.Streams.{Stream, TellsAll}
+use Rattle.run_words.specs.declared.settings.Made.{Made}
+use Rattle.solve_run.specs.Problems.{IsProblemBy}
 use Rattle.solve_run.specs.declared.status.Status.{Status}
 use Rattle.solve_run.specs.declared.status.Status.TheVariants.{Done, Open, OutOfMemory}
 
--- the source told these bytes, and neither a read nor a write failed
-pub record GoesWell (source sink : Stream) (bytes : List ℕ) : Type 0 where
-  pub tells : TellsAll source bytes
+-- where no ring is made, the source told these bytes and no read failed
+abbrev pub TellsFor : Option Made → Stream → List ℕ → Type 0
+TellsFor None source bytes = TellsAll source bytes
+TellsFor (Some made) source bytes = Unit {0}
+
+-- and no write failed
+pub record GoesWell (made : Option Made) (source sink : Stream) (bytes : List ℕ) : Type 0 where
+  pub tells : TellsFor made source bytes
   pub quiet : ¬ Rose sink.faults_before sink.faults_after
 
--- the words give a budget, and the bytes, which are not too many, state a problem that has a root
-pub record CanBeSearched (words : List (List ℕ)) (bytes : List ℕ) : Type 0 where
-  pub budget : ℕ
-  pub is_budget : IsBudgetOf words budget
-  pub short : length bytes ≤ max_problem_bytes
+-- the problem that is made, or that the bytes state, has a root
+pub record CanBeSearched (made : Option Made) (bytes : List ℕ) : Type 0 where
   pub problem : Stated
   pub root : RootEquations
-  pub has_root : HasRoot bytes problem root
+  pub is_problem : IsProblemBy made bytes problem
+  pub is_root : IsRootOf problem max_equations root
 
 -- the status is that of a certificate, or memory could not be had
 abbrev pub IsSearchedOr : Status → Type 0

@@ -1,5 +1,5 @@
-pub mod Lines
-pub mod Words
+pub mod Problems
 pub mod Statuses
+pub mod Lines
 pub mod Outcomes
 pub mod Completeness

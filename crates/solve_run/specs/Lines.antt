@@ -3,13 +3,16 @@ use Rattle.std.specs.Prelude.{ℕ, List, ◌++◌, codes, decimal}
 use Rattle.root_input.specs.Lines.{problem_text}
 use Rattle.solve_run.specs.declared.status.Status.{Status}
 use Rattle.solve_run.specs.declared.status.Status.TheVariants.{Done, Open, Usage, ReadFault, TooLong, Problem, TooManyUnknowns, TooManyEquations, WriteFault, OutOfMemory}
-use Rattle.solve_run.specs.declared.status.UsageKind.{UsageKind}
-use Rattle.solve_run.specs.declared.status.UsageKind.TheVariants.{Words, Budget}
+use Rattle.run_words.specs.declared.settings.UsageKind.{UsageKind}
+use Rattle.run_words.specs.declared.settings.UsageKind.TheVariants.{Words, Workers, Budget, Make, Summary}
 
 -- what is wrong with the words
 abbrev pub usage_text : UsageKind → List ℕ
 usage_text Words = codes "usage words"
+usage_text Workers = codes "usage workers"
 usage_text Budget = codes "usage budget"
+usage_text Make = codes "usage make"
+usage_text Summary = codes "usage summary"
 
 -- the line
 abbrev pub status_text : Status → List ℕ

@@ -1,12 +1,13 @@
-//! The whole of a run: from the bytes of a problem to the bytes of a certificate.
+//! The whole of a run: from the bytes of a problem, or a ring that is made, to the bytes of a certificate or its summary.
 #![tactic(auto)]
 
+mod input;
 pub mod laws;
 mod search;
-mod settings;
 mod status;
 mod top;
 
 pub use laws::outcome_law;
-pub use status::{Status, UsageKind, exit_code, status_line};
+pub use run_words::UsageKind;
+pub use status::{Status, exit_code, status_line};
 pub use top::run;

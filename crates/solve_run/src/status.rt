@@ -1,27 +1,19 @@
 //! How a run ends, and the line and the exit status that tell it.
 
 ghost use Rattle.std.specs.Prelude.{◌≡◌, string_bytes, IfOk};
-ghost use Rattle.solve_run.specs.Lines.{status_text, exit_of};
+ghost use Rattle.solve_run.specs.Lines.{status_text, usage_text, exit_of};
 
 use ring_file::ProblemFault;
 use root_input::{InputFault, problem_line};
+use run_words::{UsageKind, WordsStop};
 use std::alloc::{AllocError, Global};
-
-/// What is wrong with the words of a run.
-#[derive(Clone, Copy, Debug, PartialEq)]
-pub enum UsageKind {
-    /// There are words, and they are not `--budget` and one value.
-    Words,
-    /// The value of `--budget` is no number from 0 to 1,000,000 in decimal digits without leading zeros.
-    Budget,
-}
 
 /// How a run ended.
 #[derive(Clone, Copy, Debug, PartialEq)]
 pub enum Status {
-    /// The whole text was written, and none of its `leaves` leaves is open.
+    /// The whole text or summary was written, and none of its `leaves` leaves is open.
     Done { leaves: u64 },
-    /// The whole text was written, and of its `leaves` leaves `opens` are open, at least one.
+    /// The whole text or summary was written, and of its `leaves` leaves `opens` are open, at least one.
     Open { leaves: u64, opens: u64 },
     /// The words were refused, and nothing was read.
     Usage(UsageKind),
@@ -35,10 +27,24 @@ pub enum Status {
     TooManyUnknowns { count: u64 },
     /// The root has `count` equations, more than 65,536.
     TooManyEquations { count: u64 },
-    /// A write failed; a proper prefix of the text was written, so not all of it.
+    /// A write failed; a proper prefix of the text or summary was written, so not all of it.
     WriteFault,
     /// Memory could not be had.
     OutOfMemory,
+}
+
+impl From<WordsStop> for Status {
+    ghost use Rattle.std.specs.Prelude.{◌≡◌};
+    ghost use Rattle.solve_run.specs.Statuses.{words_status};
+
+    ghost from_gives = { λ stop status. status ≡ words_status stop };
+
+    fn from(stop: WordsStop) -> Status {
+        match stop {
+            WordsStop::Usage(kind) => Status::Usage(kind),
+            WordsStop::OutOfMemory => Status::OutOfMemory,
+        }
+    }
 }
 
 impl From<InputFault> for Status {
@@ -66,8 +72,7 @@ pub fn status_line(alloc: Global, status: &Status) -> Result<String, AllocError>
     match status {
         Status::Done { leaves } => format!(in alloc; "done leaves {leaves}"),
         Status::Open { leaves, opens } => format!(in alloc; "open leaves {leaves} open {opens}"),
-        Status::Usage(UsageKind::Words) => String::from_str(alloc, "usage words"),
-        Status::Usage(UsageKind::Budget) => String::from_str(alloc, "usage budget"),
+        Status::Usage(kind) => String::from_str(alloc, usage_line(*kind)),
         Status::ReadFault => String::from_str(alloc, "read fault"),
         Status::TooLong => String::from_str(alloc, "too long"),
         Status::Problem(fault) => problem_line(alloc, fault),
@@ -75,6 +80,19 @@ pub fn status_line(alloc: Global, status: &Status) -> Result<String, AllocError>
         Status::TooManyEquations { count } => format!(in alloc; "too many equations {count}"),
         Status::WriteFault => String::from_str(alloc, "write fault"),
         Status::OutOfMemory => String::from_str(alloc, "out of memory"),
+    }
+}
+
+// The line of words that are refused.
+fn usage_line(kind: UsageKind) -> &'static str
+    ensures { result.now ≡ usage_text kind }
+{
+    match kind {
+        UsageKind::Words => "usage words",
+        UsageKind::Workers => "usage workers",
+        UsageKind::Budget => "usage budget",
+        UsageKind::Make => "usage make",
+        UsageKind::Summary => "usage summary",
     }
 }
 
