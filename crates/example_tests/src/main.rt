@@ -24,7 +24,7 @@ mod words;
 use braid_io::{StdSink, StdSource};
 use std::alloc::Global;
 use std::process::ExitCode;
-use table_tests::{Answers, Fault, work_tables};
+use table_tests::{Answers, Fault, exit_of, work_tables};
 
 /// The answers to questions on polynomials and cases.
 struct Examples;
@@ -54,9 +54,5 @@ impl Answers for Examples {
 fn main(rt: HostRuntime) -> ExitCode {
     let mut source = StdSource::new(rt.stdin());
     let mut sink = StdSink::new(rt.stdout());
-    match work_tables(rt.alloc(), &mut source, &mut sink, &Examples) {
-        Ok(all_right) => ExitCode::from(u8::from(!all_right)),
-        Err(Fault::Form) => ExitCode::from(2),
-        Err(Fault::OutOfMemory) => ExitCode::from(3),
-    }
+    exit_of(work_tables(rt.alloc(), &mut source, &mut sink, &Examples))
 }

@@ -4,12 +4,12 @@ ghost use Rattle.std.specs.Prelude.{IfOk};
 ghost use Rattle.case_history.specs.History.{IsPending};
 ghost use Rattle.legal_history.specs.Legal.{IsEndOf};
 
-use crate::numbers::numbers;
 use case_ledger::{Board, Look};
 use case_rules::Outcome;
 use case_split::run_case;
 use case_state::Case;
 use cert_check::accept;
+use cert_text::write_certificate;
 use leaf_cert::Leaf;
 use legal_history::case_law;
 use refute_cert::Refutation;
@@ -17,7 +17,8 @@ use ring_file::read_problem;
 use root_system::Root;
 use sparse_poly::Poly;
 use std::alloc::{AllocError, Global};
-use table_tests::{Fault, push};
+use steal_workers::finish;
+use table_tests::{Fault, numbers, push};
 
 const PROBLEM: &str = "{\"labels\":2,\"products\":[[1,1,0]]}";
 
@@ -38,6 +39,20 @@ pub fn answer(alloc: Global, question: &str) -> Result<Vec<u8>, Fault> {
         format!(in alloc; "{pending} {least:?} {accepted:?}")?.as_str(),
         &mut text,
     )?;
+    Ok(text)
+}
+
+/// The text of the certificate, but for the end of its last line, where the cases of these numbers were settled in this order, and then all that were
+/// pending from the least on.
+pub fn finished(alloc: Global, question: &str) -> Result<Vec<u8>, Fault> {
+    let mut board = board_of(alloc)?;
+    for n in &numbers(alloc, question)? {
+        let _reply = reply_of(alloc, &mut board, *n)?;
+    }
+    finish(alloc, &mut board)?;
+    let certificate = board.certificate(alloc)?;
+    let mut text = write_certificate(alloc, &certificate)?;
+    let _end = text.pop();
     Ok(text)
 }
 

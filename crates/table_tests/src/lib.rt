@@ -7,6 +7,6 @@ mod tables;
 mod texts;
 
 pub use fault::Fault;
-pub use report::work_tables;
+pub use report::{exit_of, work_tables};
 pub use tables::{Answers, Report, worked};
-pub use texts::{both, number, push, push_poly};
+pub use texts::{both, number, numbers, push, push_poly};

@@ -4,6 +4,7 @@ use crate::tables::{Answers, Report, worked};
 use crate::texts::push;
 use braid_io::{Sink, Source, read_all, write_all_of};
 use std::alloc::Global;
+use std::process::ExitCode;
 
 /// The most bytes that tables may have.
 const MAX_BYTES: usize = 1_048_576;
@@ -24,6 +25,15 @@ pub fn work_tables<A: Answers, S: Source, K: Sink>(
     let report = worked(alloc, text, answers)?;
     let text = text_of(alloc, &report)?;
     Ok(write_all_of(sink, &text).is_ok() && report.wrong.is_empty())
+}
+
+/// How a program ends that worked tables: well where all rows are right.
+pub fn exit_of(worked: Result<bool, Fault>) -> ExitCode {
+    match worked {
+        Ok(all_right) => ExitCode::from(u8::from(!all_right)),
+        Err(Fault::Form) => ExitCode::from(2),
+        Err(Fault::OutOfMemory) => ExitCode::from(3),
+    }
 }
 
 fn text_of(alloc: Global, report: &Report) -> Result<Vec<u8>, Fault> {

@@ -2,6 +2,7 @@
 use crate::fault::Fault;
 use poly_text::write_poly;
 use sparse_poly::Poly;
+use std::alloc::Global;
 
 /// A number.
 pub fn number(text: &str) -> Result<u32, Fault> {
@@ -9,6 +10,18 @@ pub fn number(text: &str) -> Result<u32, Fault> {
         Ok(number) => Ok(number),
         Err(_) => Err(Fault::Form),
     }
+}
+
+/// The numbers of a text.
+pub fn numbers(alloc: Global, text: &str) -> Result<Vec<u64>, Fault> {
+    let mut all = Vec::new(alloc);
+    for word in text.split_whitespace() {
+        let Ok(number) = word.parse::<u64>() else {
+            return Err(Fault::Form);
+        };
+        all.push(number)?;
+    }
+    Ok(all)
 }
 
 /// Two operands.

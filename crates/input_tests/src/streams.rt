@@ -2,10 +2,9 @@
 
 ghost use Rattle.std.specs.Prelude.{None};
 
-use crate::numbers::numbers;
 use braid_io::{Failed, MemSink, MemSource, Sink, Source, read_all, write_all_of};
 use std::alloc::{AllocError, Global};
-use table_tests::{Fault, push};
+use table_tests::{Fault, numbers, push};
 
 /// A source that records whether each read was offered as much as is right: never more than remain until the limit is passed by one, at least 64 while
 /// 64 or more remain, and all that remain else.

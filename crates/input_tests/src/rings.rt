@@ -1,9 +1,21 @@
 //! Fusion rings and their symbols.
-use crate::numbers::{numbers, triples};
-use fusion_ring::Ring;
+use fusion_ring::{Ring, Triple};
 use std::alloc::Global;
 use symbol_index::{Symbol, Symbols};
-use table_tests::{Fault, push};
+use table_tests::{Fault, numbers, push};
+
+/// The triples of three numbers each.
+pub fn triples(alloc: Global, numbers: &[u64]) -> Result<Vec<Triple>, Fault> {
+    let mut all = Vec::new(alloc);
+    for three in numbers.chunks(3) {
+        let [a, b, c] = three else {
+            return Err(Fault::Form);
+        };
+        let (a, b, c) = (*a, *b, *c);
+        all.push(Triple { a, b, c })?;
+    }
+    Ok(all)
+}
 
 /// The number of labels of the ring that a number of labels and listed triples state, or the fault.
 pub fn ring(alloc: Global, question: &str) -> Result<Vec<u8>, Fault> {

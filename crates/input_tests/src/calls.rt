@@ -1,7 +1,6 @@
-//! Calls that no table asks: those of tuples, of a ring, of standings, of differences, and of runs on devices.
+//! Calls that no table asks: those of tuples, of a ring, of standings, of differences, and of devices.
 use crate::devices::{scripted, two_reads, two_writes};
-use crate::runs::line_of;
-use braid_io::{MemSink, MemSource, StdSink, StdSource};
+use braid_io::StdSource;
 use field_laws::Rationals;
 use fusion_ring::{Ring, Triple};
 use hexagon_gen::hexagon_law;
@@ -37,8 +36,6 @@ pub fn answer(alloc: Global, question: &str) -> Result<Vec<u8>, Fault> {
         "differences" => push_differences(alloc, &mut text)?,
         "numbers of summands" => push(counts(alloc)?.as_str(), &mut text)?,
         "unopened source" => push(two_reads(alloc, StdSource::unopened())?.as_str(), &mut text)?,
-        "a device that answers nothing" => push(silent(alloc)?.as_str(), &mut text)?,
-        "bytes that are no text" => push(no_text(alloc)?.as_str(), &mut text)?,
         "laws of the rationals" => laws_of_the_rationals(),
         _ => push(on_script(alloc, question)?.as_str(), &mut text)?,
     }
@@ -155,31 +152,6 @@ fn on_script(alloc: Global, question: &str) -> Result<String, Fault> {
     let reads = two_reads(alloc, StdSource::new(scripted(alloc, script)?))?;
     let writes = two_writes(alloc, scripted(alloc, script)?)?;
     Ok(format!(in alloc; "{reads}, {writes}")?)
-}
-
-// The lines of a run that writes to a device that takes nothing, and of one that reads from none.
-fn silent(alloc: Global) -> Result<String, Fault> {
-    let mut sink = StdSink::new(scripted(alloc, "00000000")?);
-    let mut source = StdSource::new(b"{\"labels\":2,\"products\":[[1,1,0]]}".as_slice());
-    let written = line_of(alloc, "--budget 0", &mut source, &mut sink)?;
-    let mut none: StdSource<&[u8]> = StdSource::unopened();
-    let read = line_of(alloc, "--budget 0", &mut none, &mut sink)?;
-    Ok(format!(in alloc; "{written}, {read}")?)
-}
-
-// The lines of runs on bytes that are no UTF-8, on the most bytes, and on one more.
-fn no_text(alloc: Global) -> Result<String, Fault> {
-    let bytes = b"{\"labels\":1,\"products\":[],\"name\":\"\xff\"}".to_vec(alloc)?;
-    let first = line_on(alloc, bytes)?;
-    let second = line_on(alloc, vec![in alloc; b' '; 1_048_576]?)?;
-    let third = line_on(alloc, vec![in alloc; b' '; 1_048_577]?)?;
-    Ok(format!(in alloc; "{first}, {second}, {third}")?)
-}
-
-fn line_on(alloc: Global, bytes: Vec<u8>) -> Result<String, AllocError> {
-    let mut source = MemSource::new(bytes, 4096, Vec::new(alloc));
-    let mut sink = MemSink::new(alloc, 1_048_576, 4096, Vec::new(alloc))?;
-    line_of(alloc, "--budget 0", &mut source, &mut sink)
 }
 
 fn laws_of_the_rationals() {

@@ -3,7 +3,7 @@
 ghost use Rattle.std.specs.Prelude.{◌≡◌, IfOk, IfSome};
 ghost use Rattle.gauge_fix.specs.Gauge.{IsFixable};
 
-use crate::numbers::{numbers, triples};
+use crate::rings::triples;
 use fusion_ring::Ring;
 use gauge_fix::{gauges, inverses};
 use hexagon_gen::hexagons;
@@ -12,7 +12,7 @@ use poly_text::write_poly;
 use sparse_poly::Poly;
 use std::alloc::Global;
 use symbol_index::{GaugeEntry, Standing, Symbol, Symbols};
-use table_tests::{Fault, push};
+use table_tests::{Fault, numbers, push};
 
 fn ring_of(alloc: Global, question: &str) -> Result<Ring, Fault> {
     let listed = triples(alloc, &numbers(alloc, question)?)?;
