@@ -1,11 +1,8 @@
 //! Checks of certificates in memory.
-use crate::runs::line_of;
 use braid_io::{MemSink, MemSource};
 use check_run::{check_line, run_check};
 use field_laws::Rationals;
 use std::alloc::{AllocError, Global};
-use std::sync::Wait;
-use std::thread::Threads;
 use table_tests::{Fault, numbers, push};
 
 /// The line of a check. The question is the problem, and below it the lines of the certificate.
@@ -24,21 +21,6 @@ pub fn check_unended(alloc: Global, question: &str) -> Result<Vec<u8>, Fault> {
         return Err(Fault::Form);
     };
     checked(alloc, problem, lines.as_bytes().to_vec(alloc)?)
-}
-
-/// The line of a check of what a run writes. The question is the words and the problem of the run, with ` | ` between.
-pub fn check_of_run<R: Threads + Wait + Sync>(
-    rt: &R,
-    alloc: Global,
-    question: &str,
-) -> Result<Vec<u8>, Fault> {
-    let Some((words, problem)) = question.split_once(" | ") else {
-        return Err(Fault::Form);
-    };
-    let mut source = MemSource::new(problem.as_bytes().to_vec(alloc)?, 4096, Vec::new(alloc));
-    let mut sink = MemSink::new(alloc, 1_048_576, 4096, Vec::new(alloc))?;
-    let _line = line_of(rt, alloc, words, &mut source, &mut sink)?;
-    checked(alloc, problem, sink.written().to_vec(alloc)?)
 }
 
 // The line of a check with ample memory, and where something was written, that it was.

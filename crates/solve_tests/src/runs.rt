@@ -1,5 +1,6 @@
 //! Runs on problems in memory. A question is the words and the problem, with ` | ` between.
 use braid_io::{MemSink, MemSource, Sink, Source, StdSource};
+use check_run::{check_line, run_check};
 use field_laws::Rationals;
 use solve_run::{run, status_line};
 use std::alloc::{AllocError, Global};
@@ -135,4 +136,40 @@ fn line_on<R: Threads + Wait + Sync>(
     let mut source = MemSource::new(bytes, 4096, Vec::new(alloc));
     let mut sink = MemSink::new(alloc, 4096, 4096, Vec::new(alloc))?;
     line_of(rt, alloc, "--budget 0", &mut source, &mut sink)
+}
+
+/// The line of a check of what a run writes. The question is the words and the problem of the run, with ` | ` between.
+pub fn check_of_run<R: Threads + Wait + Sync>(
+    rt: &R,
+    alloc: Global,
+    question: &str,
+) -> Result<Vec<u8>, Fault> {
+    let Some((words, problem)) = question.split_once(" | ") else {
+        return Err(Fault::Form);
+    };
+    let mut source = MemSource::new(problem.as_bytes().to_vec(alloc)?, 4096, Vec::new(alloc));
+    let mut sink = MemSink::new(alloc, 1_048_576, 4096, Vec::new(alloc))?;
+    let _line = line_of(rt, alloc, words, &mut source, &mut sink)?;
+    checked(alloc, problem, sink.written().to_vec(alloc)?)
+}
+
+// The line of a check with ample memory, and where something was written, that it was.
+fn checked(alloc: Global, problem: &str, certificate: Vec<u8>) -> Result<Vec<u8>, Fault> {
+    let mut problem = MemSource::new(problem.as_bytes().to_vec(alloc)?, 4096, Vec::new(alloc));
+    let mut certificate = MemSource::new(certificate, 4096, Vec::new(alloc));
+    let mut sink = MemSink::new(alloc, 4096, 4096, Vec::new(alloc))?;
+    let words = words_of(alloc, "problem certificate")?;
+    let status = run_check::<Rationals, _, _, _>(
+        alloc,
+        &words,
+        &mut problem,
+        &mut certificate,
+        &mut sink,
+    );
+    let mut text = Vec::new(alloc);
+    push(check_line(alloc, &status)?.as_str(), &mut text)?;
+    if !sink.written().is_empty() {
+        push(", written", &mut text)?;
+    }
+    Ok(text)
 }
