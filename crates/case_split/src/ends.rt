@@ -32,12 +32,13 @@ pub fn dead(
     requires least { IsLeast (IsDeadAt case.now) i }
     ensures { IfOk result (λ o. (budget : ℕ) → IsEnd root.now budget case.now o) }
 {
+    let lines = case.lines().copies(alloc)?;
     let refutation = Refutation::cone_under(
         alloc,
         root,
         case.decisions().as_slice(),
         case.known(),
-        case.lines().as_slice(),
+        &lines,
         case.equations().item(i),
     )?;
     Ok(Outcome::Dead(refutation))

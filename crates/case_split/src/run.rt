@@ -44,7 +44,10 @@ pub fn run_case(
             return Ok(Outcome::Leaf(leaf));
         }
         let operands = match due {
-            Move::Split { by, tail } => return split(alloc, root, &now, by, tail),
+            Move::Split { by, tail } => {
+                now.share()?;
+                return split(alloc, root, &now, by, tail);
+            }
             Move::Reduce { q, p, v } => Operands { q, p, var: v },
         };
         let at = match now.reduce_at(operands.q, operands.p, operands.var) {

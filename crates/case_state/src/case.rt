@@ -4,12 +4,13 @@ ghost use Rattle.pseudo_rem.specs.Steps.{CanReduce as CanReduceBy, IsStepFault};
 ghost use Rattle.case_rules.specs.Cases.{equation_at, numbered};
 ghost use Rattle.case_rules.specs.Branches.{step_line};
 ghost use Rattle.case_system.specs.Appending.{Grows};
+ghost use Rattle.case_system.specs.CaseLines.{all_lines};
 ghost use Rattle.case_state.specs.Reducing.{IsReducedBy};
 
-use crate::copies::{copied_decisions, copied_lines};
+use crate::copies::copied_decisions;
 use crate::shown::{Decisions, Equations, Lines};
 use case_rules::Equation;
-use case_system::{System, item_of};
+use case_system::{CaseLines, System, item_of};
 use derive_lines::{Decision, Item, Line, Way};
 use pseudo_rem::{Reduction, reduce_once, tail_step};
 use sparse_poly::{Poly, PolyFault};
@@ -22,7 +23,7 @@ pub struct Case {
     decisions: Vec<Decision>,
     // the equations, and as known conditions the polynomials of the nonzero decisions
     system: System,
-    lines: Vec<Line>,
+    lines: CaseLines,
     moves: u32,
 }
 
@@ -30,10 +31,11 @@ impl Model for Case {
     ghost use Rattle.std.specs.Prelude.{◌≡◌};
     ghost use Rattle.derive_lines.specs.Lines.{conditions};
     ghost use Rattle.case_rules.specs.Cases.{CaseState};
+    ghost use Rattle.case_system.specs.CaseLines.{all_lines};
 
     ghost Value = { CaseState };
 
-    ghost view = { λ c. record { decisions = c.decisions.items; equations = c.system.equations; lines = c.lines.items; moves = c.moves } };
+    ghost view = { λ c. record { decisions = c.decisions.items; equations = c.system.equations; lines = all_lines c.lines; moves = c.moves } };
 
     ghost invariant = { λ c. c.system.conditions ≡ conditions c.decisions.items };
 }
@@ -54,7 +56,7 @@ impl Case {
         Ok(Case {
             decisions: Vec::new(alloc),
             system: System::new(alloc, root_equations(alloc, root)?)?,
-            lines: Vec::new(alloc),
+            lines: CaseLines::new(alloc),
             moves: 0,
         })
     }
@@ -63,11 +65,11 @@ impl Case {
     pub fn copy(&self) -> Result<Case, AllocError>
         ensures { IfOk result (λ c. c ≡ self.now) }
     {
-        let alloc = *self.lines.allocator();
+        let alloc = self.lines.allocator();
         Ok(Case {
             decisions: copied_decisions(alloc, &self.decisions)?,
             system: self.system.copy()?,
-            lines: copied_lines(alloc, &self.lines)?,
+            lines: self.lines.copy()?,
             moves: self.moves,
         })
     }
@@ -107,6 +109,13 @@ impl Case {
         }
     }
 
+    /// Makes copies and branches share the lines that were made so far. The case stays the same. It fails only where no memory is left.
+    pub fn share(&mut self) -> Result<(), AllocError>
+        ensures { self.new ≡ self.old }
+    {
+        self.lines.share()
+    }
+
     /// A branch of the case: with the decision that a polynomial is zero or not, and one move more. Where it is not zero, all equations are
     /// stripped and then cleared of the known conditions. Where it is zero, it is an equation; and where `tail` is the place of the equation
     /// whose initial it was left of, that equation loses its initial. `tail` is `None` for a variable. `Degree` and `Heavy` come exactly where
@@ -132,8 +141,9 @@ impl Case {
         ensures { IfOk result (λ c. IsNonzeroBranch self.now by.now c) }
     {
         let decisions = self.decided(by, false)?;
-        let mut lines = copied_lines(*self.lines.allocator(), &self.lines)?;
+        let mut lines = self.lines.copy()?;
         let system = self.system.with_condition(by, &mut lines)?;
+        lines.share()?;
         Ok(Case {
             decisions,
             system,
@@ -153,7 +163,7 @@ impl Case {
         Ok(Case {
             decisions: self.decided(by, true)?,
             system,
-            lines: copied_lines(*self.lines.allocator(), &self.lines)?,
+            lines: self.lines.copy()?,
             moves: self.moves + 1,
         })
     }
@@ -178,7 +188,7 @@ impl Case {
         ensures { IfOk result (λ c. IsTailBranch self.now by.now i c) }
     {
         let zero = self.zero_equation(by)?;
-        let mut lines = copied_lines(*self.lines.allocator(), &self.lines)?;
+        let mut lines = self.lines.copy()?;
         let made = Equation {
             poly: step.r.copy()?,
             item: Item::Line(lines.len() as u64),
@@ -188,6 +198,7 @@ impl Case {
         system.remove(i);
         system.add(zero)?;
         system.add_cleared(made, &mut lines)?;
+        lines.share()?;
         Ok(Case {
             decisions: self.decided(by, true)?,
             system,
@@ -209,7 +220,7 @@ impl Case {
         let initial = poly.coefficient_in(var, poly.degree_in(var))?;
         let parts = initial.clear(self.system.conditions())?;
         tail_step(
-            *self.lines.allocator(),
+            self.lines.allocator(),
             poly,
             var,
             &parts.factor,
@@ -222,7 +233,7 @@ impl Case {
     fn decided(&self, by: &Poly, zero: bool) -> Result<Vec<Decision>, AllocError>
         ensures { IfOk result (λ v. v.items ≡ decided self.now.decisions by.now zero) }
     {
-        let mut decisions = copied_decisions(*self.lines.allocator(), &self.decisions)?;
+        let mut decisions = copied_decisions(self.lines.allocator(), &self.decisions)?;
         decisions.push(Decision {
             poly: by.copy()?,
             zero,
@@ -271,7 +282,7 @@ impl Case {
     pub fn lines(&self) -> Lines<'_>
         ensures { result ≡ self.now.lines }
     {
-        Lines { list: &self.lines }
+        Lines { lines: &self.lines }
     }
 
     /// The number of moves.
@@ -326,16 +337,16 @@ fn reduced(
     q: u64,
     p: u64,
     var: u32,
-    lines: &mut Vec<Line>,
+    lines: &mut CaseLines,
 ) -> Result<Option<u64>, PolyFault>
     requires q_place { q < length system.old.equations }
     requires p_place { p < length system.old.equations }
     requires can { CanReduceBy (equation_at system.old.equations q).poly (equation_at system.old.equations p).poly var }
-    ensures grows { Grows lines.old.items lines.new.items }
-    ensures answer { MatchResult result (λ at. IsReducedBy system.old q p var lines.old.items lines.new.items at system.new) (IsStepFault (equation_at system.old.equations q).poly (equation_at system.old.equations p).poly var) }
+    ensures grows { Grows lines.old lines.new }
+    ensures answer { MatchResult result (λ at. IsReducedBy system.old q p var (all_lines lines.old) (all_lines lines.new) at system.new) (IsStepFault (equation_at system.old.equations q).poly (equation_at system.old.equations p).poly var) }
     ensures unchanged { OnErr result (system.new ≡ system.old) }
 {
-    let alloc = *lines.allocator();
+    let alloc = lines.allocator();
     let reduced = &system.equations()[q as usize];
     let by = &system.equations()[p as usize];
     let step = reduce_once(alloc, &reduced.poly, &by.poly, var, system.conditions())?;

@@ -3,7 +3,7 @@ ghost use Rattle.std.specs.Prelude.{◌≡◌, IfOk};
 ghost use Rattle.case_rules.specs.Cases.{polys_of};
 
 use case_rules::Equation;
-use derive_lines::{Decision, Line};
+use derive_lines::Decision;
 use sparse_poly::Poly;
 use std::alloc::{AllocError, Global};
 
@@ -17,21 +17,6 @@ fn copied_decision(decision: &Decision) -> Result<Decision, AllocError>
     })
 }
 
-// An equal line.
-fn copied_line(line: &Line) -> Result<Line, AllocError>
-    ensures { IfOk result (λ l. l ≡ line.now) }
-{
-    Ok(Line {
-        way: line.way,
-        from: line.from,
-        by: line.by,
-        l: line.l.copy()?,
-        a: line.a.copy()?,
-        m: line.m.copy()?,
-        made: line.made.copy()?,
-    })
-}
-
 /// Equal decisions. It fails only where no memory is left.
 pub fn copied_decisions(alloc: Global, decisions: &[Decision]) -> Result<Vec<Decision>, AllocError>
     ensures { IfOk result (λ v. v.items ≡ decisions.now) }
@@ -39,17 +24,6 @@ pub fn copied_decisions(alloc: Global, decisions: &[Decision]) -> Result<Vec<Dec
     let mut copies = Vec::with_capacity(alloc, decisions.len())?;
     for decision in decisions {
         copies.push(copied_decision(decision)?)?;
-    }
-    Ok(copies)
-}
-
-/// Equal lines. It fails only where no memory is left.
-pub fn copied_lines(alloc: Global, lines: &[Line]) -> Result<Vec<Line>, AllocError>
-    ensures { IfOk result (λ v. v.items ≡ lines.now) }
-{
-    let mut copies = Vec::with_capacity(alloc, lines.len())?;
-    for line in lines {
-        copies.push(copied_line(line)?)?;
     }
     Ok(copies)
 }

@@ -6,6 +6,6 @@ mod copies;
 mod shown;
 
 pub use case::Case;
-pub use case_system::copied_polys;
-pub use copies::{copied_decisions, copied_lines};
+pub use case_system::{copied_lines, copied_polys};
+pub use copies::copied_decisions;
 pub use shown::{Decisions, Equations, Lines};

@@ -4,8 +4,9 @@ ghost use Rattle.std.specs.Prelude.{◌≡◌, ◌<◌, IfOk, length, slice_get}
 ghost use Rattle.std.specs.declared.option.Option.TheVariants.{Some};
 ghost use Rattle.case_rules.specs.Cases.{equation_at, polys_of};
 
-use crate::copies::{copied_decisions, copied_lines, polys_of};
+use crate::copies::{copied_decisions, polys_of};
 use case_rules::Equation;
+use case_system::CaseLines;
 use derive_lines::{Decision, Item, Line};
 use sparse_poly::Poly;
 use std::alloc::{AllocError, Global};
@@ -44,16 +45,17 @@ impl<'a> Model for Equations<'a> {
 /// Lines, seen as a list.
 #[derive(Drop)]
 pub struct Lines<'a> {
-    pub(crate) list: &'a [Line],
+    pub(crate) lines: &'a CaseLines,
 }
 
 impl<'a> Model for Lines<'a> {
     ghost use Rattle.std.specs.Prelude.{List};
     ghost use Rattle.derive_lines.specs.declared.parts.Line.{Line};
+    ghost use Rattle.case_system.specs.CaseLines.{all_lines};
 
     ghost Value = { List Line };
 
-    ghost view = { λ d. d.list.now };
+    ghost view = { λ d. all_lines d.lines.now };
 }
 
 impl<'a> Decisions<'a> {
@@ -124,29 +126,14 @@ impl<'a> Lines<'a> {
     pub fn len(&self) -> u64
         ensures { result ≡ length self.now }
     {
-        self.list.len() as u64
+        self.lines.len() as u64
     }
 
     /// Copies of all of them, the oldest first. It fails only where no memory is left.
     pub fn copies(&self, alloc: Global) -> Result<Vec<Line>, AllocError>
         ensures { IfOk result (λ v. v.items ≡ self.now) }
     {
-        copied_lines(alloc, self.list)
-    }
-
-    /// All of them, the oldest first.
-    pub fn as_slice(&self) -> &'a [Line]
-        ensures { result.now ≡ self.now }
-    {
-        self.list
-    }
-
-    /// The line at a place.
-    pub fn at(&self, i: u64) -> &'a Line
-        requires { i < length self.now }
-        ensures { slice_get self.now i ≡ Some result.now }
-    {
-        line(self.list, i)
+        self.lines.copies(alloc)
     }
 }
 
@@ -160,14 +147,6 @@ fn equation(list: &[Equation], i: u64) -> &Equation
 
 // The decision at a place.
 fn decision(list: &[Decision], i: u64) -> &Decision
-    requires { i < length list.now }
-    ensures { slice_get list.now i ≡ Some result.now }
-{
-    &list[i as usize]
-}
-
-// The line at a place.
-fn line(list: &[Line], i: u64) -> &Line
     requires { i < length list.now }
     ensures { slice_get list.now i ≡ Some result.now }
 {

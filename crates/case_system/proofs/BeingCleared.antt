@@ -15,7 +15,7 @@ use Rattle.case_rules.specs.Clearings as clearings
 use Rattle.case_rules.specs.Clearings.{made, quotient_line, Divides, IsClearing, AreCleared, AreStripped}
 use Rattle.case_system.specs.Appending as appending
 use Rattle.case_system.specs.Kept.{AreAddedCleared}
-use Rattle.case_system.specs.Appending.{Grows, IsClearedBy, AreClearedBy, IsStrippedBy, AreStrippedBy}
+use Rattle.case_system.specs.Appending.{IsClearedBy, AreClearedBy, IsStrippedBy, AreStrippedBy}
 use Rattle.case_rules.proofs.Sides.{one_product, division_sides}
 
 -- one division of a polynomial is one of a clearing that begins with it

@@ -1,4 +1,5 @@
 pub mod BeingCleared
 pub mod Counting
+mod Joining
 mod Marking
 pub mod Placing

@@ -5,11 +5,13 @@ use Rattle.sparse_poly.specs.Units.{IsStripped}
 use Rattle.derive_lines.specs.declared.parts.Line.{Line}
 use Rattle.case_rules.specs.declared.equation.Equation.{Equation}
 use Rattle.case_rules.specs.Clearings.{made, quotient_line, IsClearing, AreCleared, AreStripped}
+use Rattle.case_system.specs.CaseLines.{LinesState}
 
--- a list has more members at its end
-pub record Grows {X : Type 0} (before now : List X) : Type 0 where
-  pub more : List X
-  pub is : now ≡ before ++ more
+-- there are more lines that are the case's own
+pub record Grows (before now : LinesState) : Type 0 where
+  pub more : List Line
+  pub is : now.own ≡ before.own ++ more
+  pub shared : now.shared ≡ before.shared
 
 -- an equation is cleared, and the lines for it are appended
 pub record IsClearedBy (units : List (List Term)) (before : List Line) (e : Equation) (now : List Line) (f : Equation) : Type 0 where

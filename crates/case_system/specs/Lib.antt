@@ -1,4 +1,5 @@
 pub mod Places
+pub mod CaseLines
 pub mod Appending
 pub mod Marks
 pub mod Clean

@@ -7,6 +7,7 @@ ghost use Rattle.sparse_poly.specs.Clearing.{IsInForm, IsDividedBy, leading_degr
 ghost use Rattle.case_rules.specs.Clearings.{Divides, quotient_line};
 ghost use Rattle.case_system.specs.declared.kept.Kept.{Kept};
 ghost use Rattle.case_system.specs.Appending.{Grows, IsClearedBy, IsStrippedBy, AreStrippedBy};
+ghost use Rattle.case_system.specs.CaseLines.{all_lines};
 ghost use Rattle.case_system.specs.Clean.{IsCleanTo, IsBareTo, AreClean};
 ghost use Rattle.case_system.specs.Kept.{equations_of, AreAddedCleared};
 ghost use Rattle.case_system.specs.Places.{Ascend};
@@ -14,6 +15,7 @@ ghost use Rattle.case_system.specs.Places.{Ascend};
 use crate::conditions::Conditions;
 use crate::copies::copied_equation;
 use crate::kept::{Kept, KeptList, add};
+use crate::lines::CaseLines;
 use case_rules::Equation;
 use derive_lines::{Item, Line, Way, is_same};
 use sparse_poly::{Poly, Stripped};
@@ -53,11 +55,11 @@ fn divide_out(
     alloc: Global,
     n: &Poly,
     equation: Equation,
-    lines: &mut Vec<Line>,
+    lines: &mut CaseLines,
 ) -> Result<Equation, AllocError>
     requires { IsInForm n.now }
-    ensures grows { Grows lines.old.items lines.new.items }
-    ensures cleared { IfOk result (λ e. IsClearedBy (n.now ∷ []) lines.old.items equation lines.new.items e) }
+    ensures grows { Grows lines.old lines.new }
+    ensures cleared { IfOk result (λ e. IsClearedBy (n.now ∷ []) (all_lines lines.old) equation (all_lines lines.new) e) }
 {
     let mut now = equation;
     'divisions: while let Some(h) = divided(&now.poly, n)? {
@@ -74,11 +76,11 @@ fn clear_from(
     conditions: &Conditions,
     from: usize,
     equation: Equation,
-    lines: &mut Vec<Line>,
+    lines: &mut CaseLines,
 ) -> Result<Equation, AllocError>
     requires { from ≤ length conditions.now }
-    ensures grows { Grows lines.old.items lines.new.items }
-    ensures cleared { IfOk result (λ e. IsClearedBy (drop from conditions.now) lines.old.items equation lines.new.items e) }
+    ensures grows { Grows lines.old lines.new }
+    ensures cleared { IfOk result (λ e. IsClearedBy (drop from conditions.now) (all_lines lines.old) equation (all_lines lines.new) e) }
 {
     let polys = conditions.polys();
     let mut now = equation;
@@ -97,11 +99,11 @@ pub fn clear_equation(
     alloc: Global,
     conditions: &Conditions,
     kept: Kept,
-    lines: &mut Vec<Line>,
+    lines: &mut CaseLines,
 ) -> Result<Kept, AllocError>
     requires { IsBareTo conditions.now kept.equation.poly kept.clean }
-    ensures grows { Grows lines.old.items lines.new.items }
-    ensures cleared { IfOk result (λ k. IsClearedBy conditions.now lines.old.items kept.equation lines.new.items k.equation) }
+    ensures grows { Grows lines.old lines.new }
+    ensures cleared { IfOk result (λ k. IsClearedBy conditions.now (all_lines lines.old) kept.equation (all_lines lines.new) k.equation) }
     ensures clean { IfOk result (λ k. IsCleanTo conditions.now k.equation.poly k.clean) }
 {
     let before = lines.len();
@@ -120,10 +122,10 @@ pub fn clear_equations(
     alloc: Global,
     conditions: &Conditions,
     stripped: Vec<Kept>,
-    lines: &mut Vec<Line>,
+    lines: &mut CaseLines,
 ) -> Result<KeptList, AllocError>
     requires { AllByRecursion (λ (k : Kept). IsBareTo conditions.now k.equation.poly k.clean) stripped.items }
-    ensures cleared { IfOk result (λ l. AreAddedCleared conditions.now lines.old.items (equations_of stripped.items) lines.new.items l.equations.items) }
+    ensures cleared { IfOk result (λ l. AreAddedCleared conditions.now (all_lines lines.old) (equations_of stripped.items) (all_lines lines.new) l.equations.items) }
     ensures ascending { IfOk result (λ l. Ascend l.equations.items) }
     ensures clean { IfOk result (λ l. AreClean conditions.now l.equations.items l.clean.items) }
 {
@@ -182,10 +184,10 @@ fn strip_equation(
     conditions: &[Poly],
     equation: &Equation,
     clean: usize,
-    lines: &mut Vec<Line>,
+    lines: &mut CaseLines,
 ) -> Result<Kept, AllocError>
     requires { IsCleanTo conditions.now equation.now.poly clean }
-    ensures stripped { IfOk result (λ k. IsStrippedBy conditions.now lines.old.items equation.now lines.new.items k.equation) }
+    ensures stripped { IfOk result (λ k. IsStrippedBy conditions.now (all_lines lines.old) equation.now (all_lines lines.new) k.equation) }
     ensures bare { IfOk result (λ k. IsBareTo conditions.now k.equation.poly k.clean) }
 {
     let _terms = equation.poly.terms();
@@ -214,10 +216,10 @@ pub fn strip_equations(
     alloc: Global,
     conditions: &[Poly],
     list: &KeptList,
-    lines: &mut Vec<Line>,
+    lines: &mut CaseLines,
 ) -> Result<Vec<Kept>, AllocError>
     requires { AreClean conditions.now list.now.equations.items list.now.clean.items }
-    ensures stripped { IfOk result (λ v. AreStrippedBy conditions.now lines.old.items list.now.equations.items lines.new.items (equations_of v.items)) }
+    ensures stripped { IfOk result (λ v. AreStrippedBy conditions.now (all_lines lines.old) list.now.equations.items (all_lines lines.new) (equations_of v.items)) }
     ensures bare { IfOk result (λ v. AllByRecursion (λ (k : Kept). IsBareTo conditions.now k.equation.poly k.clean) v.items) }
 {
     let mut stripped = Vec::with_capacity(alloc, list.equations.len())?;

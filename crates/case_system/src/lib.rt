@@ -5,9 +5,11 @@ mod clearing;
 mod conditions;
 mod copies;
 mod kept;
+mod lines;
 mod system;
 
 pub use conditions::Conditions;
 pub use copies::copied_polys;
 pub use kept::item_of;
+pub use lines::{CaseLines, copied_lines};
 pub use system::System;

@@ -2,6 +2,7 @@
 ghost use Rattle.std.specs.Prelude.{◌≡◌, ◌<◌, [], IfOk, OnErr, length, remove};
 ghost use Rattle.case_rules.specs.Kept.{added};
 ghost use Rattle.case_system.specs.Appending.{Grows};
+ghost use Rattle.case_system.specs.CaseLines.{all_lines};
 ghost use Rattle.case_system.specs.Clean.{IsBare};
 ghost use Rattle.case_system.specs.Places.{Ascend};
 
@@ -9,8 +10,8 @@ use crate::clearing::{clear_equation, clear_equations, strip_equations};
 use crate::conditions::Conditions;
 use crate::copies::copied_list;
 use crate::kept::{Kept, KeptList, add, add_in_room};
+use crate::lines::CaseLines;
 use case_rules::Equation;
-use derive_lines::Line;
 use sparse_poly::Poly;
 use std::alloc::{AllocError, Global};
 use std::marker::Model;
@@ -94,12 +95,12 @@ impl System {
     pub fn add_cleared(
         &mut self,
         equation: Equation,
-        lines: &mut Vec<Line>,
+        lines: &mut CaseLines,
     ) -> Result<(), AllocError>
         requires { IsBare self.old.conditions equation.poly }
-        ensures { IfOk result (λ _. IsAddedCleared self.old lines.old.items equation lines.new.items self.new) }
+        ensures { IfOk result (λ _. IsAddedCleared self.old (all_lines lines.old) equation (all_lines lines.new) self.new) }
     {
-        let alloc = *lines.allocator();
+        let alloc = lines.allocator();
         let kept = Kept { equation, clean: 0 };
         let rest = clear_equation(alloc, &self.conditions, kept, lines)?;
         add(&mut self.list, rest)
@@ -112,15 +113,15 @@ impl System {
         &mut self,
         q: u64,
         equation: Equation,
-        lines: &mut Vec<Line>,
+        lines: &mut CaseLines,
     ) -> Result<Option<u64>, AllocError>
         requires place { q < length self.old.equations }
         requires stripped { IsBare self.old.conditions equation.poly }
-        ensures grows { Grows lines.old.items lines.new.items }
-        ensures replaced { IfOk result (λ at. IsReplaced self.old q lines.old.items equation lines.new.items at self.new) }
+        ensures grows { Grows lines.old lines.new }
+        ensures replaced { IfOk result (λ at. IsReplaced self.old q (all_lines lines.old) equation (all_lines lines.new) at self.new) }
         ensures unchanged { OnErr result (self.new ≡ self.old) }
     {
-        let alloc = *lines.allocator();
+        let alloc = lines.allocator();
         let kept = Kept { equation, clean: 0 };
         let rest = clear_equation(alloc, &self.conditions, kept, lines)?;
         let _replaced = self.list.equations.remove(q as usize);
@@ -130,10 +131,10 @@ impl System {
 
     /// The same equations with one more known condition: all are stripped, in their order, and then all are cleared, with the lines for it. It
     /// fails only where no memory is left; then some lines may have been appended.
-    pub fn with_condition(&self, by: &Poly, lines: &mut Vec<Line>) -> Result<System, AllocError>
-        ensures { IfOk result (λ s. HasCondition self.now by.now lines.old.items lines.new.items s) }
+    pub fn with_condition(&self, by: &Poly, lines: &mut CaseLines) -> Result<System, AllocError>
+        ensures { IfOk result (λ s. HasCondition self.now by.now (all_lines lines.old) (all_lines lines.new) s) }
     {
-        let alloc = *lines.allocator();
+        let alloc = lines.allocator();
         let conditions = self.conditions.with(by)?;
         let stripped = strip_equations(alloc, conditions.polys(), &self.list, lines)?;
         let list = clear_equations(alloc, &conditions, stripped, lines)?;

@@ -7,6 +7,7 @@ use Rattle.case_system.specs.Places.{Ascend}
 use Rattle.case_system.proofs.BeingCleared.{AreBeingAdded, adding_begun, added_next, all_added_at_last}
 use Rattle.case_system.proofs.Counting.{counts_length}
 use Rattle.case_system.proofs.Placing.{ascend_none}
+use Rattle.case_system.specs.CaseLines.{all_lines}
 use Rattle.case_system.proofs.clearing.clear_equations.Goals as goal
 
 pub equations-init : goal.equations-init
@@ -16,7 +17,7 @@ equations-init c =
     let no_counts : c.new-2.result.items ≡ [] = search rules in
     let bare : AllByRecursion (λ (k : Kept). IsBareTo c.args.conditions.now k.equation.poly k.clean) c.from-left.result.items = subst (AllByRecursion (λ (k : Kept). IsBareTo c.args.conditions.now k.equation.poly k.clean)) (sym same) c.requires in
     record {
-      cleared = subst (λ ks. AreBeingAdded c.args.conditions.now c.args.lines.now.items (equations_of c.args.stripped.items) (equations_of ks) c.args.lines.now.items c.new.result.items) (sym same) (adding_begun c.args.conditions.now c.args.lines.now.items (equations_of c.args.stripped.items) c.new.result.items none);
+      cleared = subst (λ ks. AreBeingAdded c.args.conditions.now (all_lines c.args.lines.now) (equations_of c.args.stripped.items) (equations_of ks) (all_lines c.args.lines.now) c.new.result.items) (sym same) (adding_begun c.args.conditions.now (all_lines c.args.lines.now) (equations_of c.args.stripped.items) c.new.result.items none);
       bare = bare;
       ascending = subst Ascend (sym none) ascend_none;
       clean = subst (λ es. AreClean c.args.conditions.now es c.new-2.result.items) (sym none) (subst (AreClean c.args.conditions.now []) (sym no_counts) tt);
@@ -30,8 +31,8 @@ equations-preserved c =
     let left : c.equations.left.items ≡ c.in-Some.kept ∷ c.pop_front.new.self.items = c.in-Some.ensures.items in
     let bare : AllByRecursion (λ (k : Kept). IsBareTo c.args.conditions.now k.equation.poly k.clean) (c.in-Some.kept ∷ c.pop_front.new.self.items) = subst (AllByRecursion (λ (k : Kept). IsBareTo c.args.conditions.now k.equation.poly k.clean)) left c.equations.invariant.bare in
     record {
-      cleared = added_next c.args.conditions.now c.args.lines.now.items (equations_of c.args.stripped.items) c.in-Some.kept.equation (equations_of c.pop_front.new.self.items) c.equations.lines.items c.clear_equation.new.lines.items c.equations.list.equations.items c.add.new.list.equations.items c.in_ok-cleared.cleared.equation
-          (subst (λ ks. AreBeingAdded c.args.conditions.now c.args.lines.now.items (equations_of c.args.stripped.items) (equations_of ks) c.equations.lines.items c.equations.list.equations.items) left c.equations.invariant.cleared) c.in_ok-cleared.ensures.cleared c.in_ok-add.ensures.added;
+      cleared = added_next c.args.conditions.now (all_lines c.args.lines.now) (equations_of c.args.stripped.items) c.in-Some.kept.equation (equations_of c.pop_front.new.self.items) (all_lines c.equations.lines) (all_lines c.clear_equation.new.lines) c.equations.list.equations.items c.add.new.list.equations.items c.in_ok-cleared.cleared.equation
+          (subst (λ ks. AreBeingAdded c.args.conditions.now (all_lines c.args.lines.now) (equations_of c.args.stripped.items) (equations_of ks) (all_lines c.equations.lines) c.equations.list.equations.items) left c.equations.invariant.cleared) c.in_ok-cleared.ensures.cleared c.in_ok-add.ensures.added;
       bare = bare.1;
       ascending = c.in_ok-add.ensures.ascending;
       clean = c.in_ok-add.ensures.clean c.args.conditions.now c.equations.invariant.clean c.in_ok-cleared.ensures.clean;
@@ -40,4 +41,4 @@ equations-preserved c =
 pub returns-clause-cleared : goal.returns-clause-cleared
 returns-clause-cleared c =
     let none : c.equations.left.items ≡ [] = search rules in
-    all_added_at_last c.args.conditions.now c.args.lines.now.items (equations_of c.args.stripped.items) (equations_of c.equations.left.items) c.equations.lines.items c.equations.list.equations.items (ap equations_of none) c.equations.invariant.cleared
+    all_added_at_last c.args.conditions.now (all_lines c.args.lines.now) (equations_of c.args.stripped.items) (equations_of c.equations.left.items) (all_lines c.equations.lines) c.equations.list.equations.items (ap equations_of none) c.equations.invariant.cleared

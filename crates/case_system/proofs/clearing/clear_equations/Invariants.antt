@@ -5,11 +5,12 @@ use Rattle.case_system.specs.Clean.{IsBareTo, AreClean}
 use Rattle.case_system.specs.Kept.{equations_of}
 use Rattle.case_system.specs.Places.{Ascend}
 use Rattle.case_system.proofs.BeingCleared.{AreBeingAdded}
+use Rattle.case_system.specs.CaseLines.{all_lines}
 use Rattle.case_system.proofs.clearing.clear_equations.Given as goal
 
 abbrev pub invariant-equations : goal.invariant-equations
 invariant-equations l = record {
-  cleared : AreBeingAdded l.conditions l.fn.lines.items (equations_of l.fn.stripped.items) (equations_of l.left.items) l.lines.items l.list.equations.items;
+  cleared : AreBeingAdded l.conditions (all_lines l.fn.lines) (equations_of l.fn.stripped.items) (equations_of l.left.items) (all_lines l.lines) l.list.equations.items;
   bare : AllByRecursion (λ (k : Kept). IsBareTo l.conditions k.equation.poly k.clean) l.left.items;
   ascending : Ascend l.list.equations.items;
   clean : AreClean l.conditions l.list.equations.items l.list.clean.items;
