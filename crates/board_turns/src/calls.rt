@@ -6,22 +6,21 @@ ghost use Rattle.case_history.specs.History.{IsLeastPending, IsComplete};
 ghost use Rattle.legal_history.specs.Legal.{IsEndOf};
 ghost use Rattle.case_ledger.specs.Board.{IsLook};
 ghost use Rattle.board_turns.specs.Seen.{seen_board, IsBoardSeat};
-ghost use Rattle.board_turns.specs.Jobs.{AreOfBoard, SettlesLater};
+ghost use Rattle.board_turns.specs.Jobs.{SettlesLater};
 
-use crate::jobs::{LeastJob, LookJob, RootJob};
-use crate::root_copy::RootCopy;
+use crate::jobs::{LeastJob, LookJob};
 use crate::seen::SeenBoard;
 use crate::settling::SettleJob;
 use case_ledger::{Board, Look, Reply, Unsettled};
 use case_rules::Outcome;
-use case_state::Case;
+use case_state::SharedCase;
 use leaf_cert::Leaf;
 use refute_cert::Refutation;
 use std::alloc::{AllocError, Global};
 use std::sync::Wait;
 use turn_lock::{TurnSeat, Turns};
 
-/// What became of case n, with a copy of it where it is pending, on the board that the seat has then seen. It fails only where no memory is left.
+/// What became of case n, with the case itself where it is pending, on the board that the seat has then seen. It fails only where no memory is left.
 pub fn look<R: Wait>(
     rt: &R,
     turns: &Turns<Board>,
@@ -52,22 +51,6 @@ pub fn least_pending<R: Wait>(
     turns.with_turn(rt, seat, &mut LeastJob { seen })
 }
 
-/// A copy of the root's equations and of the budget. It fails only where no memory is left.
-pub fn copy_root<R: Wait>(
-    rt: &R,
-    alloc: Global,
-    turns: &Turns<Board>,
-    seat: &mut TurnSeat<Board>,
-) -> Result<RootCopy, AllocError>
-    requires { IsBoardSeat turns.now seat.old }
-    ensures seat { IsBoardSeat turns.now seat.new }
-    ensures seen { IsPrefix (seat_seen seat.old) (seat_seen seat.new) }
-    ensures copy { IfOk result (AreOfBoard (seen_board turns.now seat.new)) }
-{
-    let seen = SeenBoard::of(turns, seat);
-    turns.with_turn(rt, seat, &mut RootJob { alloc, seen })
-}
-
 /// Settles case n with an outcome, which is its end on the board that the seat had seen. The board that is found goes on from that one, and the reply
 /// is what a board of one thread replies there. It fails only where no memory is left, and hands the outcome back.
 pub fn settle<R: Wait>(
@@ -76,7 +59,7 @@ pub fn settle<R: Wait>(
     turns: &Turns<Board>,
     seat: &mut TurnSeat<Board>,
     n: u64,
-    outcome: Outcome<Case, Refutation, Leaf>,
+    outcome: Outcome<SharedCase, Refutation, Leaf>,
 ) -> Result<Reply, Unsettled>
     requires seat { IsBoardSeat turns.now seat.old }
     requires ends { IsEndOf (seen_board turns.now seat.old).root.equations (seen_board turns.now seat.old).budget (seen_board turns.now seat.old).history n outcome }

@@ -3,15 +3,13 @@ ghost use Rattle.std.specs.Prelude.{◌≡◌, [], IfOk, MatchOption, reverse};
 ghost use Rattle.case_history.specs.History.{IsLeastPending, IsComplete};
 ghost use Rattle.case_ledger.specs.Board.{IsLook};
 ghost use Rattle.case_ledger.specs.Origins.{origin_of, board_after};
-ghost use Rattle.board_turns.specs.Jobs.{AreOfBoard};
 
-use crate::root_copy::RootCopy;
 use crate::seen::SeenBoard;
 use case_ledger::{Board, Look};
-use std::alloc::{AllocError, Global};
+use std::alloc::AllocError;
 use turn_lock::Job;
 
-/// To look at case n. The reply is what became of it, with a copy where it is pending.
+/// To look at case n. The reply is what became of it, with the case itself where it is pending.
 #[derive(Drop)]
 pub struct LookJob {
     pub seen: SeenBoard,
@@ -49,26 +47,5 @@ impl Job<Board> for LeastJob {
 
     fn act(&mut self, board: &mut Board) -> Option<u64> {
         board.least_pending()
-    }
-}
-
-/// To copy the root's equations and the budget.
-#[derive(Drop)]
-pub struct RootJob {
-    pub alloc: Global,
-    pub seen: SeenBoard,
-}
-
-impl Job<Board> for RootJob {
-    type Reply = Result<RootCopy, AllocError>;
-
-    ghost from = { λ j. origin_of j.seen };
-
-    ghost base = { λ _. [] };
-
-    ghost test = { λ j found left reply. (left ≡ found) × IfOk reply (AreOfBoard j.seen) };
-
-    fn act(&mut self, board: &mut Board) -> Result<RootCopy, AllocError> {
-        RootCopy::of(self.alloc, board)
     }
 }

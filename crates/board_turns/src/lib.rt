@@ -7,8 +7,8 @@ mod root_copy;
 mod seen;
 mod settling;
 
-pub use calls::{copy_root, least_pending, look, settle};
-pub use jobs::{LeastJob, LookJob, RootJob};
+pub use calls::{least_pending, look, settle};
+pub use jobs::{LeastJob, LookJob};
 pub use root_copy::RootCopy;
 pub use seen::SeenBoard;
 pub use settling::SettleJob;

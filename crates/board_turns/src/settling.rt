@@ -8,7 +8,7 @@ ghost use Rattle.case_ledger.specs.Origins.{origin_of, oldest_first};
 use crate::seen::SeenBoard;
 use case_ledger::{Board, Reply, Unsettled};
 use case_rules::Outcome;
-use case_state::Case;
+use case_state::SharedCase;
 use leaf_cert::Leaf;
 use legal_history::case_law;
 use refute_cert::Refutation;
@@ -23,7 +23,7 @@ pub struct SettleJob {
     alloc: Global,
     seen: SeenBoard,
     n: u64,
-    outcome: Option<Outcome<Case, Refutation, Leaf>>,
+    outcome: Option<Outcome<SharedCase, Refutation, Leaf>>,
 }
 
 impl Model for SettleJob {
@@ -42,7 +42,7 @@ impl SettleJob {
         alloc: Global,
         seen: SeenBoard,
         n: u64,
-        outcome: Outcome<Case, Refutation, Leaf>,
+        outcome: Outcome<SharedCase, Refutation, Leaf>,
     ) -> SettleJob
         requires { IsEndOf seen.root.equations seen.budget seen.history n outcome }
         ensures { result ≡ record { seen = seen; n = n; outcome = Some outcome } }

@@ -1,15 +1,15 @@
 //! What the calls of a board answer.
 
 use case_rules::Outcome;
-use case_state::Case;
+use case_state::SharedCase;
 use leaf_cert::Leaf;
 use refute_cert::Refutation;
 
 /// What a look at a case answers.
 #[derive(Drop)]
 pub enum Look {
-    /// The case is pending. This is a copy of it.
-    Pending(Case),
+    /// The case is pending. This is the case, for one more owner.
+    Pending(SharedCase),
     /// The case was settled by the entry at this place of the history, counted from the oldest, which is 0.
     Settled { at: u64 },
     /// No such case was made.
@@ -34,5 +34,5 @@ pub enum Reply {
 /// No memory was left. It hands back the outcome.
 #[derive(Drop)]
 pub struct Unsettled {
-    pub outcome: Outcome<Case, Refutation, Leaf>,
+    pub outcome: Outcome<SharedCase, Refutation, Leaf>,
 }

@@ -18,7 +18,7 @@ use crate::laws::case_laws;
 use crate::nodes::{Node, Nodes};
 use crate::rooting::root_list;
 use case_rules::Outcome;
-use case_state::Case;
+use case_state::{Case, SharedCase};
 use leaf_cert::{Certificate, Leaf, Rows};
 use pattern_store::PatternStore;
 use refute_cert::Refutation;
@@ -69,7 +69,7 @@ impl Board {
         ensures { IfOk result (λ b. b ≡ record { root = root; budget = budget; history = [] }) }
     {
         root_list(&root);
-        let first = Case::root(alloc, root.equations())?;
+        let first = SharedCase::of(alloc, Case::root(alloc, root.equations())?)?;
         Ok(Board {
             root,
             budget,
@@ -98,7 +98,7 @@ impl Board {
         self.budget
     }
 
-    /// What became of case n: a copy of it where it is pending, and else the place of the entry that settled it. `NoCase` comes exactly where no
+    /// What became of case n: the case itself where it is pending, which is not copied, and else the place of the entry that settled it. `NoCase` comes exactly where no
     /// such case was made. It fails only where no memory is left.
     pub fn look(&self, n: u64) -> Result<Look, AllocError>
         ensures { IfOk result (IsLook self.now n) }
@@ -106,7 +106,7 @@ impl Board {
         match self.nodes.get(n) {
             None => Ok(Look::NoCase),
             Some(Node::Settled { at }) => Ok(Look::Settled { at: *at }),
-            Some(Node::Pending(case)) => Ok(Look::Pending(case.copy()?)),
+            Some(Node::Pending(case)) => Ok(Look::Pending(case.another()?)),
         }
     }
 
@@ -115,7 +115,7 @@ impl Board {
         ensures { MatchOption (option_copied result) (IsPending self.now.history n → ⊥) (IsPendingCase self.now n) }
     {
         match self.nodes.get(n) {
-            Some(Node::Pending(case)) => Some(case),
+            Some(Node::Pending(case)) => Some(case.case()),
             Some(Node::Settled { .. }) => None,
             None => None,
         }
@@ -154,7 +154,7 @@ impl Board {
         &mut self,
         alloc: Global,
         n: u64,
-        outcome: Outcome<Case, Refutation, Leaf>,
+        outcome: Outcome<SharedCase, Refutation, Leaf>,
     ) -> Result<Reply, Unsettled>
         requires { IsPending self.old.history n → IsEndOf self.old.root.equations self.old.budget self.old.history n outcome }
         ensures ok { IfOk result (λ reply. Settles self.old n outcome reply self.new) }
@@ -180,7 +180,7 @@ impl Board {
             None => Ok(Standing::NoCase),
             Some(Node::Settled { at }) => Ok(Standing::Settled { at: *at }),
             Some(Node::Pending(case)) => {
-                match self.stored.find(alloc, case.decisions().as_slice())? {
+                match self.stored.find(alloc, case.case().decisions().as_slice())? {
                     Some(k) => Ok(Standing::Covered { k }),
                     None => Ok(Standing::Uncovered),
                 }
@@ -206,7 +206,7 @@ impl Board {
         &mut self,
         alloc: Global,
         n: u64,
-        outcome: Outcome<Case, Refutation, Leaf>,
+        outcome: Outcome<SharedCase, Refutation, Leaf>,
     ) -> Result<Reply, Unsettled>
         requires pending { IsPending self.old.history n }
         requires ends { EndsLiving self.old.root.equations self.old.budget self.old.history n outcome }
@@ -264,9 +264,9 @@ impl Board {
         &mut self,
         n: u64,
         by: Poly,
-        zero: Case,
-        nonzero: Case,
-    ) -> Result<u64, (Poly, Case, Case)>
+        zero: SharedCase,
+        nonzero: SharedCase,
+    ) -> Result<u64, (Poly, SharedCase, SharedCase)>
         requires pending { IsPending self.old.history n }
         requires ends { EndsLiving self.old.root.equations self.old.budget self.old.history n (split_end by zero nonzero) }
         ensures number { IfOk result (λ left. (left ≡ cases_made self.old.history) × (left < 2 ^ 63)) }

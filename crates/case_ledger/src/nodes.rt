@@ -4,14 +4,14 @@ ghost use Rattle.std.specs.Option.{option_copied};
 ghost use Rattle.case_ledger.specs.declared.nodes.Node.TheVariants.{Pending, Settled};
 ghost use Rattle.case_ledger.specs.Nodes.{IsPendingNode, HasNoPending, HasNoneBelow, IsFirstPending, IsNext, pending_in};
 
-use case_state::Case;
+use case_state::SharedCase;
 use std::alloc::{AllocError, Global};
 use std::marker::Model;
 
 /// What is kept of a case: the case itself while it is pending, and then the place of the entry that settled it.
 #[derive(Drop)]
 pub enum Node {
-    Pending(Case),
+    Pending(SharedCase),
     Settled { at: u64 },
 }
 
@@ -40,7 +40,7 @@ impl Model for Nodes {
 
 impl Nodes {
     /// One pending case.
-    pub fn new(alloc: Global, case: Case) -> Result<Nodes, AllocError>
+    pub fn new(alloc: Global, case: SharedCase) -> Result<Nodes, AllocError>
         ensures { IfOk result (λ n. n ≡ Pending case ∷ []) }
     {
         let mut all = Vec::with_capacity(alloc, 1)?;
@@ -88,7 +88,13 @@ impl Nodes {
 
     /// Case n was settled by the entry at this place, and its two branches are the next cases. It answers the number of the first. Where no memory
     /// is left, nothing changes, and the branches are handed back.
-    pub fn split(&mut self, n: u64, at: u64, zero: Case, nonzero: Case) -> Result<u64, (Case, Case)>
+    pub fn split(
+        &mut self,
+        n: u64,
+        at: u64,
+        zero: SharedCase,
+        nonzero: SharedCase,
+    ) -> Result<u64, (SharedCase, SharedCase)>
         requires { IsPendingNode self.old n }
         ensures number { IfOk result (λ left. (left ≡ length self.old) × (left < 2 ^ 63)) }
         ensures ok { IfOk result (λ _. self.new ≡ slice_set self.old n (Settled at) ++ Pending zero ∷ Pending nonzero ∷ []) }

@@ -11,7 +11,7 @@ ghost use Rattle.case_split.specs.Found.{back_line};
 
 use crate::ends::leaf;
 use case_rules::Outcome;
-use case_state::Case;
+use case_state::{Case, SharedCase};
 use derive_lines::{Item, Line, Way};
 use leaf_cert::{Leaf, LeafEnd};
 use pseudo_rem::{Reduction, Step, remainder, remainder_answer_law};
@@ -25,7 +25,7 @@ pub fn settled(
     alloc: Global,
     root: &[Poly],
     case: &Case,
-) -> Result<Outcome<Case, Refutation, Leaf>, AllocError>
+) -> Result<Outcome<SharedCase, Refutation, Leaf>, AllocError>
     requires belongs { Belongs root.now case.now }
     requires alive { IsAlive case.now }
     requires settled { IsSettled case.now }

@@ -7,6 +7,7 @@ ghost use Rattle.sparse_poly.specs.Contributions.{IsFault};
 ghost use Rattle.pseudo_rem.specs.Steps.{IsStepFault};
 ghost use Rattle.leaf_cert.specs.Leaves.{EndChecks};
 ghost use Rattle.case_rules.specs.declared.moves.Move.TheVariants as of_move;
+ghost use Rattle.case_rules.specs.declared.outcome.Outcome.TheVariants.{Split as split_end};
 ghost use Rattle.case_rules.specs.Cases.{known, poly, polys};
 ghost use Rattle.case_rules.specs.Branches.{IsBranchFault};
 ghost use Rattle.case_rules.specs.Rules.{IsLeast, IsDeadAt, IsAlive, IsMove};
@@ -15,7 +16,7 @@ ghost use Rattle.case_rules.specs.Ends.{leaf_of, IsStoppedBy, IsEnd};
 
 use crate::rules::Operands;
 use case_rules::{Outcome, move_law};
-use case_state::Case;
+use case_state::{Case, SharedCase};
 use leaf_cert::{Leaf, LeafEnd, OpenCause, StepKind, Stop};
 use refute_cert::Refutation;
 use sparse_poly::{Poly, PolyFault};
@@ -27,7 +28,7 @@ pub fn dead(
     root: &[Poly],
     case: &Case,
     i: u64,
-) -> Result<Outcome<Case, Refutation, Leaf>, AllocError>
+) -> Result<Outcome<SharedCase, Refutation, Leaf>, AllocError>
     requires belongs { Belongs root.now case.now }
     requires least { IsLeast (IsDeadAt case.now) i }
     ensures { IfOk result (λ o. (budget : ℕ) → IsEnd root.now budget case.now o) }
@@ -51,7 +52,7 @@ pub fn split(
     case: &Case,
     by: Poly,
     tail: Option<u64>,
-) -> Result<Outcome<Case, Refutation, Leaf>, AllocError>
+) -> Result<Outcome<SharedCase, Refutation, Leaf>, AllocError>
     requires belongs { Belongs root.now case.now }
     requires alive { IsAlive case.now }
     requires due { IsMove case.now (of_move.Split by tail) }
@@ -70,6 +71,20 @@ pub fn split(
         Ok(nonzero) => nonzero,
         Err(fault) => return Err(want_of_memory(fault)),
     };
+    split_into(alloc, by, zero, nonzero)
+}
+
+// A split into these branches.
+fn split_into(
+    alloc: Global,
+    by: Poly,
+    zero: Case,
+    nonzero: Case,
+) -> Result<Outcome<SharedCase, Refutation, Leaf>, AllocError>
+    ensures { IfOk result (λ o. o ≡ split_end by zero nonzero) }
+{
+    let zero = SharedCase::of(alloc, zero)?;
+    let nonzero = SharedCase::of(alloc, nonzero)?;
     Ok(Outcome::Split { by, zero, nonzero })
 }
 
@@ -92,7 +107,7 @@ fn stopped_tail(
     by: Poly,
     i: u64,
     fault: PolyFault,
-) -> Result<Outcome<Case, Refutation, Leaf>, AllocError>
+) -> Result<Outcome<SharedCase, Refutation, Leaf>, AllocError>
     requires belongs { Belongs root.now case.now }
     requires alive { IsAlive case.now }
     requires due { IsMove case.now (of_move.Split by (Some i)) }
@@ -119,7 +134,7 @@ pub fn stopped_reduction(
     case: &Case,
     operands: Operands,
     fault: PolyFault,
-) -> Result<Outcome<Case, Refutation, Leaf>, AllocError>
+) -> Result<Outcome<SharedCase, Refutation, Leaf>, AllocError>
     requires belongs { Belongs root.now case.now }
     requires alive { IsAlive case.now }
     requires due { IsMove case.now (of_move.Reduce operands.q operands.p operands.var) }

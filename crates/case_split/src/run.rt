@@ -8,7 +8,7 @@ use crate::conditions::settled;
 use crate::ends::{dead, leaf, split, stopped_reduction};
 use crate::rules::{Operands, dead_after, dead_at, done_after, due_move};
 use case_rules::{Move, Outcome, belongs_law, move_law};
-use case_state::Case;
+use case_state::{Case, SharedCase};
 use leaf_cert::{Leaf, LeafEnd, OpenCause};
 use refute_cert::Refutation;
 use sparse_poly::Poly;
@@ -23,7 +23,7 @@ pub fn run_case(
     root: &[Poly],
     case: &Case,
     budget: u32,
-) -> Result<Outcome<Case, Refutation, Leaf>, AllocError>
+) -> Result<Outcome<SharedCase, Refutation, Leaf>, AllocError>
     requires belongs { Belongs root.now case.now }
     requires within { case.now.moves ≤ budget }
     ensures { IfOk result (IsEnd root.now budget case.now) }

@@ -40,7 +40,7 @@ fn end_at(
     root: &[Poly],
     path: &str,
     budget: u32,
-) -> Result<Option<Outcome<Case, Refutation, Leaf>>, AllocError>
+) -> Result<Option<Outcome<SharedCase, Refutation, Leaf>>, AllocError>
     requires { IsRootList root.now }
 {
     belongs_law();
@@ -86,7 +86,7 @@ fn branch_of(
 }
 
 // `split` with its polynomial, `dead` with the parts of the refutation, or `leaf` with those of the leaf.
-fn text_of(alloc: Global, end: &Outcome<Case, Refutation, Leaf>) -> Result<Vec<u8>, Fault> {
+fn text_of(alloc: Global, end: &Outcome<SharedCase, Refutation, Leaf>) -> Result<Vec<u8>, Fault> {
     let mut text = Vec::new(alloc);
     match end {
         Outcome::Split { by, .. } => {

@@ -93,7 +93,7 @@ fn end_of(
     alloc: Global,
     board: &Board,
     n: u64,
-) -> Result<Outcome<Case, Refutation, Leaf>, AllocError>
+) -> Result<Outcome<SharedCase, Refutation, Leaf>, AllocError>
     ensures { IfOk result (λ o. IsPending board.now.history n → IsEndOf board.now.root.equations board.now.budget board.now.history n o) }
 {
     case_law();

@@ -5,12 +5,14 @@ ghost use mathlib.Core.List.{IsPrefix};
 ghost use Rattle.turn_lock.specs.Lock.{seat_seen};
 ghost use Rattle.case_history.specs.History.{IsComplete};
 ghost use Rattle.case_ledger.specs.Origins.{Continues};
-ghost use Rattle.board_turns.specs.Seen.{IsBoardSeat};
+ghost use Rattle.board_turns.specs.Jobs.{AreOfBoard};
+ghost use Rattle.board_turns.specs.Seen.{seen_board, IsBoardSeat};
 ghost use Rattle.steal_workers.specs.declared.worker.WorkEnd.TheVariants.{Finished};
 
 use crate::gate::Gate;
 use crate::worker::{WorkEnd, work};
 use crate::worker_decks::{WorkerDecks, decks_for};
+use board_turns::RootCopy;
 use case_ledger::Board;
 use std::alloc::Global;
 use std::sync::Wait;
@@ -33,7 +35,7 @@ struct SeatedWorker {
 
 /// Runs so many workers on the board, waits until all have ended, and gives the board back. It goes on from the board that was handed in. The end is
 /// `Finished` exactly where no case of it is pending, and else no memory was left for some worker or for starting them. Where no memory is left for
-/// the decks or the lock, the board is handed back as it was.
+/// the decks, the copy of the root or the lock, the board is handed back as it was.
 pub fn run_workers<R: Threads + Wait + Sync, G: Gate + Sync>(
     rt: &R,
     alloc: Global,
@@ -52,9 +54,12 @@ pub fn run_workers<R: Threads + Wait + Sync, G: Gate + Sync>(
     let Ok(room) = Vec::with_capacity(alloc, decks.len()) else {
         return Err(NoTurns { value: board });
     };
+    let Ok(root) = RootCopy::of(alloc, &board) else {
+        return Err(NoTurns { value: board });
+    };
     let (turns, mut seat) = Turns::new(alloc, board)?;
     let seated = seat_all(&turns, &mut seat, decks, room);
-    run_all(rt, alloc, &turns, &mut seat, seated, gate);
+    run_all(rt, alloc, &turns, &mut seat, seated, &root, gate);
     let board = turns.close(rt, seat);
     let end = end_of(&board);
     Ok(Ran { board, end })
@@ -99,9 +104,11 @@ fn run_all<R: Threads + Wait + Sync, G: Gate + Sync>(
     turns: &Turns<Board>,
     seat: &mut TurnSeat<Board>,
     seated: Vec<SeatedWorker>,
+    root: &RootCopy,
     gate: &G,
 )
     requires seat { IsBoardSeat turns.now seat.old }
+    requires root { AreOfBoard (seen_board turns.now seat.old) root.now }
     requires seated { All (λ one. IsBoardSeat turns.now one.seat) seated.items }
     ensures seat { IsBoardSeat turns.now seat.new }
     ensures seen { IsPrefix (seat_seen seat.old) (seat_seen seat.new) }
@@ -110,9 +117,9 @@ fn run_all<R: Threads + Wait + Sync, G: Gate + Sync>(
         rt,
         seated,
         &|one: SeatedWorker| -> TurnSeat<Board>
-            requires { IsBoardSeat turns.now one.seat }
+            requires { IsBoardSeat turns.now one.seat × AreOfBoard (seen_board turns.now one.seat) root.now }
             ensures { IsBoardSeat turns.entry.now result }
-        { run_one(rt, alloc, turns, one, gate) },
+        { run_one(rt, alloc, turns, one, root, gate) },
     );
     let Ok(seats) = ran else { return };
     join_all(turns, seat, seats);
@@ -124,9 +131,11 @@ fn run_one<R: Wait, G: Gate>(
     alloc: Global,
     turns: &Turns<Board>,
     one: SeatedWorker,
+    root: &RootCopy,
     gate: &G,
 ) -> TurnSeat<Board>
-    requires { IsBoardSeat turns.now one.seat }
+    requires seat { IsBoardSeat turns.now one.seat }
+    requires root { AreOfBoard (seen_board turns.now one.seat) root.now }
     ensures { IsBoardSeat turns.now result }
 {
     let SeatedWorker { decks, mut seat } = one;
@@ -142,6 +151,7 @@ fn run_one<R: Wait, G: Gate>(
         &mut seat,
         &mut owner,
         thieves.as_mut_slice(),
+        root,
         worker,
         gate,
     );

@@ -12,7 +12,7 @@ use board_turns::{RootCopy, look, settle};
 use case_ledger::{Board, Look, Reply};
 use case_rules::Outcome;
 use case_split::run_case;
-use case_state::Case;
+use case_state::{Case, SharedCase};
 use leaf_cert::Leaf;
 use legal_history::case_law;
 use refute_cert::Refutation;
@@ -20,10 +20,10 @@ use std::alloc::{AllocError, Global};
 use std::sync::Wait;
 use turn_lock::{TurnSeat, Turns};
 
-/// What a worker has outside the lock: a copy of the root and the budget, its number, and the gate.
+/// What a worker has outside the lock: the root and the budget, its number, and the gate.
 #[derive(Drop)]
 pub struct CaseRunner<'a, G: Gate> {
-    pub root: RootCopy,
+    pub root: &'a RootCopy,
     pub worker: u32,
     pub gate: &'a G,
 }
@@ -49,7 +49,7 @@ impl<'a, G: Gate> CaseRunner<'a, G> {
             return Ok(None);
         };
         let _list = self.root.equations();
-        let outcome = self.run(rt, alloc, &case, n)?;
+        let outcome = self.run(rt, alloc, case.case(), n)?;
         match settle(rt, alloc, turns, seat, n, outcome) {
             Ok(reply) => Ok(Some(reply)),
             Err(_) => Err(AllocError),
@@ -63,7 +63,7 @@ impl<'a, G: Gate> CaseRunner<'a, G> {
         alloc: Global,
         case: &Case,
         n: u64,
-    ) -> Result<Outcome<Case, Refutation, Leaf>, AllocError>
+    ) -> Result<Outcome<SharedCase, Refutation, Leaf>, AllocError>
         requires belongs { Belongs self.now.root.equations case.now }
         requires within { case.now.moves ≤ self.now.root.budget }
         ensures { IfOk result (IsEnd self.now.root.equations self.now.root.budget case.now) }

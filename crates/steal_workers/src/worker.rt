@@ -3,6 +3,7 @@ ghost use Rattle.std.specs.Prelude.{◌≡◌, ◌<◌};
 ghost use mathlib.Core.List.{IsPrefix};
 ghost use Rattle.turn_lock.specs.Lock.{seat_seen};
 ghost use Rattle.case_history.specs.History.{IsComplete};
+ghost use Rattle.board_turns.specs.Jobs.{AreOfBoard};
 ghost use Rattle.board_turns.specs.Seen.{seen_board, IsBoardSeat};
 ghost use Rattle.steal_workers.specs.declared.worker.WorkEnd.TheVariants.{Finished};
 ghost use Rattle.steal_workers.specs.declared.worker.Sweep.TheVariants.{NonePending};
@@ -10,7 +11,7 @@ ghost use Rattle.steal_workers.specs.declared.worker.Sweep.TheVariants.{NonePend
 use crate::gate::Gate;
 use crate::runner::CaseRunner;
 use crate::worker_decks::next_number;
-use board_turns::{copy_root, least_pending};
+use board_turns::{RootCopy, least_pending};
 use case_ledger::{Board, Reply};
 use std::alloc::Global;
 use std::sync::Wait;
@@ -49,17 +50,16 @@ pub fn work<R: Wait, G: Gate>(
     seat: &mut TurnSeat<Board>,
     owner: &mut Owner,
     thieves: &mut [Thief],
+    root: &RootCopy,
     worker: u32,
     gate: &G,
 ) -> WorkEnd
-    requires { IsBoardSeat turns.now seat.old }
+    requires seat { IsBoardSeat turns.now seat.old }
+    requires root { AreOfBoard (seen_board turns.now seat.old) root.now }
     ensures seat { IsBoardSeat turns.now seat.new }
     ensures seen { IsPrefix (seat_seen seat.old) (seat_seen seat.new) }
     ensures finished { result ≡ Finished → IsComplete (seen_board turns.now seat.new).history }
 {
-    let Ok(root) = copy_root(rt, alloc, turns, seat) else {
-        return WorkEnd::OutOfMemory;
-    };
     let runner = CaseRunner { root, worker, gate };
     let mut idle_sweeps = 0;
     for _ in rt.forever() {

@@ -4,6 +4,7 @@
 
 mod meeting;
 
+use board_turns::RootCopy;
 use case_ledger::Board;
 use meeting::Meeting;
 use ring_file::read_problem;
@@ -98,6 +99,7 @@ fn work_alone<R: Wait>(rt: &R, alloc: Global) -> Option<Alone> {
     other.push(0).ok()?;
     let mut thieves = Vec::new(alloc);
     thieves.push(thief).ok()?;
+    let root = RootCopy::of(alloc, &board).ok()?;
     let Ok(lock) = Turns::new(alloc, board) else {
         return None;
     };
@@ -109,6 +111,7 @@ fn work_alone<R: Wait>(rt: &R, alloc: Global) -> Option<Alone> {
         &mut seat,
         &mut own,
         thieves.as_mut_slice(),
+        &root,
         0,
         &OpenGate,
     );

@@ -27,7 +27,7 @@ pub settled-requires-clause-alive : goal.settled-requires-clause-alive
 settled-requires-clause-alive c = c.moves.invariant.alive
 
 pub split-requires-clause-alive : goal.split-requires-clause-alive
-split-requires-clause-alive c = c.moves.invariant.alive
+split-requires-clause-alive c = subst IsAlive (sym c.share.ensures) c.moves.invariant.alive
 
 pub stopped_reduction-requires-clause-alive : goal.stopped_reduction-requires-clause-alive
 stopped_reduction-requires-clause-alive c = let same : c.reduce_at.new.self ≡ c.moves.now = search rules in subst IsAlive (sym same) c.moves.invariant.alive
@@ -38,7 +38,9 @@ returns-then-moves-budget c =
     c.moves.invariant.ends _ (spent_end c.args.root.now c.args.budget c.moves.now c.in-Some-2.due c.in_ok-leaf.leaf c.moves.invariant.alive due (omega (arith, c.if-moves-budget.true, c.moves-in-moves.ensures)) c.in_ok-leaf.ensures)
 
 pub returns-in-Split : goal.returns-in-Split
-returns-in-Split c = IfOk-weaker c.split.result _ _ (λ o h. c.moves.invariant.ends o (h c.args.budget (search rules))) c.split.ensures
+returns-in-Split c =
+    let within : c.share.new.self.moves < c.args.budget = subst (λ (now : CaseState). now.moves < c.args.budget) (sym c.share.ensures) (omega (arith, c.if-moves-budget.false, c.moves-in-moves.ensures)) in
+    IfOk-weaker c.split.result _ _ (λ o h. c.moves.invariant.ends o (subst (λ (now : CaseState). IsEnd c.args.root.now c.args.budget now o) c.share.ensures (h c.args.budget within))) c.split.ensures
 
 pub reduce_at-requires-clause-can : goal.reduce_at-requires-clause-can
 reduce_at-requires-clause-can c =
