@@ -69,7 +69,8 @@ impl Board {
         ensures { IfOk result (λ b. b ≡ record { root = root; budget = budget; history = [] }) }
     {
         root_list(&root);
-        let first = SharedCase::of(alloc, Case::root(alloc, root.equations())?)?;
+        let case = Case::root(alloc, root.equations())?;
+        let first = SharedCase::of(alloc, case)?;
         Ok(Board {
             root,
             budget,

@@ -11,7 +11,7 @@ invariant_of-result c = c.root.invariant
 pub invariant_of-result-2 : goal.invariant_of-result-2
 invariant_of-result-2 c =
     let same : c.root.inside.equations.items ≡ c.args.root.equations = ap (λ (r : RootEquations). r.equations) c.root.view_is in
-    rw (c.new.ensures.items, c.in_ok-new.ensures, c.in_ok-first.ensures, c.new-3.ensures, c.equations.ensures.equations, ← same) (record {
+    rw (c.new.ensures.items, c.in_ok-new.ensures, c.in_ok-first.ensures, c.in_ok-case.ensures, c.new-3.ensures, c.equations.ensures.equations, ← same) (record {
       small = c.requires;
       posted = λ k d lt. absurd (omega (arith, lt));
       agrees = first_agrees c.root.inside.equations.items c.args.budget (subst IsRootList (sym same) c.root_list.ensures);

@@ -7,7 +7,7 @@ use Rattle.case_ledger.proofs.board.Board.pending_case.Goals as goal
 pub returns-in-Some-Pending : goal.returns-in-Some-Pending
 returns-in-Some-Pending c =
     let p = pending_node _ _ _ _ _ c.args.n c.in-Some-Pending.case c.self.invariant.agrees (sym c.in-Some-Pending.ensures ∙ ap Some c.in-Some-Pending.field-0-is) in
-    rw (← c.self.view_is) (record { pending = p.0; is = p.1 })
+    rw (← c.self.view_is, c.case.ensures) (record { pending = p.0; is = p.1 })
 
 pub returns-in-Some-Settled : goal.returns-in-Some-Settled
 returns-in-Some-Settled c =

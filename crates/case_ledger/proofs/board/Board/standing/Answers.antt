@@ -12,9 +12,9 @@ returns-in-Some-Settled c = rw (← c.self.view_is) (settled_node _ _ _ _ _ c.ar
 pub returns-in-Some : goal.returns-in-Some
 returns-in-Some c = rw (← c.self.view_is) (covered_node _ _ _ _ _ c.args.n c.in-Some.k c.in-Some-Pending.case c.self.invariant.agrees
     (sym c.in-Some-Pending.ensures ∙ ap Some c.in-Some-Pending.field-0-is)
-    (rw (c.in-Some.is, c.as_slice.ensures, c.decisions.ensures) at c.in_ok-k-in-Some-Pending.ensures))
+    (rw (c.in-Some.is, c.as_slice.ensures, c.decisions.ensures, c.case.ensures) at c.in_ok-k-in-Some-Pending.ensures))
 
 pub returns-in-None-2 : goal.returns-in-None-2
 returns-in-None-2 c = rw (← c.self.view_is) (uncovered_node _ _ _ _ _ c.args.n c.in-Some-Pending.case c.self.invariant.agrees
     (sym c.in-Some-Pending.ensures ∙ ap Some c.in-Some-Pending.field-0-is)
-    (rw (c.in-None-2.is, c.as_slice.ensures, c.decisions.ensures) at c.in_ok-k-in-Some-Pending.ensures))
+    (rw (c.in-None-2.is, c.as_slice.ensures, c.decisions.ensures, c.case.ensures) at c.in_ok-k-in-Some-Pending.ensures))
