@@ -8,7 +8,7 @@ use crate::roots::is_root_list;
 use crate::texts::polys;
 use case_rules::{Outcome, belongs_law, end_law};
 use case_split::run_case;
-use case_state::Case;
+use case_state::{Case, SharedCase};
 use leaf_cert::{Leaf, LeafEnd, OpenCause, StepKind, Stop};
 use refute_cert::Refutation;
 use sparse_poly::Poly;
@@ -75,10 +75,8 @@ fn branch_of(
             nonzero: other,
             ..
         } => {
-            if zero {
-                return Ok(Some(branch));
-            }
-            Ok(Some(other))
+            let kept = if zero { branch } else { other };
+            Ok(Some(kept.case().copy()?))
         }
         Outcome::Dead(_) => Ok(None),
         Outcome::Leaf(_) => Ok(None),

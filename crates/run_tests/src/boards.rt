@@ -7,7 +7,7 @@ ghost use Rattle.legal_history.specs.Legal.{IsEndOf};
 use case_ledger::{Board, Look};
 use case_rules::Outcome;
 use case_split::run_case;
-use case_state::Case;
+use case_state::{Case, SharedCase};
 use cert_check::accept;
 use cert_text::write_certificate;
 use leaf_cert::Leaf;
@@ -71,7 +71,7 @@ fn board_of(alloc: Global) -> Result<Board, Fault> {
 fn look_of(alloc: Global, board: &Board, n: u64) -> Result<String, AllocError> {
     match board.look(n)? {
         Look::Pending(case) => {
-            let decisions = case.decisions().len();
+            let decisions = case.case().decisions().len();
             format!(in alloc; "{n} pending {decisions}: ")
         }
         Look::Settled { at } => format!(in alloc; "{n} settled {at}: "),
@@ -102,8 +102,8 @@ fn end_of(
         Some(case) => run_case(alloc, equations, case, board.budget()),
         None => Ok(Outcome::Split {
             by: Poly::zero(alloc),
-            zero: Case::root(alloc, equations)?,
-            nonzero: Case::root(alloc, equations)?,
+            zero: SharedCase::of(alloc, Case::root(alloc, equations)?)?,
+            nonzero: SharedCase::of(alloc, Case::root(alloc, equations)?)?,
         }),
     }
 }

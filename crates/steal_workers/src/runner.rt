@@ -40,16 +40,16 @@ impl<'a, G: Gate> CaseRunner<'a, G> {
         n: u64,
     ) -> Result<Option<Reply>, AllocError>
         requires seat { IsBoardSeat turns.now seat.old }
-        requires root { AreOfBoard (seen_board turns.now seat.old) self.now.root }
+        requires root { AreOfBoard (seen_board turns.now seat.old) self.now.root.now }
         ensures seat { IsBoardSeat turns.now seat.new }
         ensures seen { IsPrefix (seat_seen seat.old) (seat_seen seat.new) }
     {
         case_law();
-        let Look::Pending(case) = look(rt, turns, seat, n)? else {
+        let Look::Pending(pending) = look(rt, turns, seat, n)? else {
             return Ok(None);
         };
         let _list = self.root.equations();
-        let outcome = self.run(rt, alloc, case.case(), n)?;
+        let outcome = self.run(rt, alloc, pending.case(), n)?;
         match settle(rt, alloc, turns, seat, n, outcome) {
             Ok(reply) => Ok(Some(reply)),
             Err(_) => Err(AllocError),
@@ -64,9 +64,9 @@ impl<'a, G: Gate> CaseRunner<'a, G> {
         case: &Case,
         n: u64,
     ) -> Result<Outcome<SharedCase, Refutation, Leaf>, AllocError>
-        requires belongs { Belongs self.now.root.equations case.now }
-        requires within { case.now.moves ≤ self.now.root.budget }
-        ensures { IfOk result (IsEnd self.now.root.equations self.now.root.budget case.now) }
+        requires belongs { Belongs self.now.root.now.equations case.now }
+        requires within { case.now.moves ≤ self.now.root.now.budget }
+        ensures { IfOk result (IsEnd self.now.root.now.equations self.now.root.now.budget case.now) }
     {
         let outcome = run_case(alloc, self.root.equations(), case, self.root.budget())?;
         self.gate.arrive(rt, self.worker, n);
