@@ -209,6 +209,6 @@ module _ (units : List (List Term)) (n f g : List Term) where
   once_some None s e h = absurd (none-some s e)
   once_some (Some x) s e h = subst (λ (y : Stripped). IsDivision units n f g y.factor y.rest) (same_Some x s e) h
 
--- a member that is not in form is passed
-pub passed_at : (units : List (List Term)) (k : ℕ) (n f g : List Term) → k < length units → n ≡ slice_index_or units k n → (IsInForm n → ⊥) → (e h : List Term) → IsDividedOut units (drop (k + 1) units) f g e h → IsDividedOut units (drop k units) f g e h
-passed_at units k n f g l s z e h r = subst (λ ns. IsDividedOut units ns f g e h) (sym (drop_one units k n l ∙ ap (λ x. x ∷ drop (k + 1) units) (sym s))) (passed (λ d j i. z i.in_form) r)
+-- a member that is not divided out is passed
+pub passed_at : (units : List (List Term)) (k : ℕ) (n f g : List Term) → k < length units → n ≡ slice_index_or units k n → ((d j : List Term) → IsDivision units n f g d j → ⊥) → (e h : List Term) → IsDividedOut units (drop (k + 1) units) f g e h → IsDividedOut units (drop k units) f g e h
+passed_at units k n f g l s z e h r = subst (λ ns. IsDividedOut units ns f g e h) (sym (drop_one units k n l ∙ ap (λ x. x ∷ drop (k + 1) units) (sym s))) (passed z r)

@@ -13,3 +13,4 @@ pub mod Dividing
 pub mod OrderLaws
 pub mod Hashing
 pub mod Owing
+pub mod Shared

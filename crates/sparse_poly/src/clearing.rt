@@ -4,6 +4,7 @@ ghost use Rattle.sparse_poly.specs.declared.Term.{Term};
 ghost use Rattle.monomial.specs.Monomials.{exponent};
 ghost use Rattle.sparse_poly.specs.Clearing.{IsDividedBy, HasDivisor, IsInForm, IsDivision, IsDividedOut};
 
+use crate::dividing::ends_divide;
 use crate::stripping::{contains, content_of};
 use crate::{Poly, PolyFault, Stripped, Term, one_clearing_law};
 use monomial::Monomial;
@@ -17,7 +18,7 @@ impl Stripped {
     {
         let mut cleared = self;
         for unit in units {
-            if !is_in_form(unit) {
+            if !may_divide(unit, &cleared.rest) {
                 continue;
             }
             cleared = divided_out_by(units, unit, cleared)?;
@@ -31,11 +32,19 @@ impl Stripped {
     pub fn divided_by(&self, units: &[Poly], n: &Poly) -> Result<Option<Stripped>, AllocError>
         ensures { IfOk result (λ o. MatchOption o ((e h : List Term) → IsDivision units.now n.now self.now.factor self.now.rest e h → ⊥) (λ s. IsDivision units.now n.now self.now.factor self.now.rest s.factor s.rest)) }
     {
-        if !is_in_form(n) {
+        if !may_divide(n, &self.rest) {
             return Ok(None);
         }
         divided_once(units, n, &self.factor, &self.rest)
     }
+}
+
+// Whether a polynomial is in form and its ends divide those of a rest, without which it is not divided out.
+fn may_divide(n: &Poly, rest: &Poly) -> bool
+    ensures form { IsTrue result → IsInForm n.now }
+    ensures none { result ≡ false → (us : List (List Term)) (f e h : List Term) → IsDivision us n.now f rest.now e h → ⊥ }
+{
+    ends_divide(rest.terms(), n.terms()) && is_in_form(n)
 }
 
 // The factor and the rest after a member of the units, which is in form, was divided out as often as it goes.

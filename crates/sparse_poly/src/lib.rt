@@ -26,6 +26,7 @@ mod order;
 mod owing;
 mod packed_entry;
 mod packing;
+mod shared;
 mod sources;
 mod squeezing;
 mod stripping;
@@ -41,11 +42,12 @@ pub use laws::{
 use layout::{laid, without_layout};
 use monomial::Monomial;
 use multiplying::{added, combined, multiplied, summed};
+use shared::SharedTerms;
 use std::alloc::{AllocError, AllocFailed, Global};
 use std::cmp::Ordering;
 use std::marker::Model;
 pub use stripping::contains;
-use stripping::{content_of, quotients, same_terms, terms_of_power, unit_monomial};
+use stripping::{content_of, quotients, terms_of_power, unit_monomial};
 
 /// A monomial with its coefficient.
 #[derive(Drop)]
@@ -57,7 +59,7 @@ pub struct Term {
 /// A polynomial, seen as the list of its terms from the greatest monomial to the least. No coefficient is 0, and each has an absolute value of at most 2^127 - 1.
 #[derive(Drop)]
 pub struct Poly {
-    terms: Vec<Term>,
+    terms: SharedTerms,
 }
 
 impl Model for Poly {
@@ -67,9 +69,9 @@ impl Model for Poly {
 
     ghost Value = { List Term };
 
-    ghost view = { λ p. p.terms.items };
+    ghost view = { λ p. p.terms };
 
-    ghost invariant = { λ p. IsPoly p.terms.items };
+    ghost invariant = { λ p. IsPoly p.terms };
 }
 
 /// Why a sum or a product is not made.
@@ -118,8 +120,17 @@ impl Poly {
         ensures { result ≡ [] }
     {
         Poly {
-            terms: Vec::new(alloc),
+            terms: SharedTerms::none(alloc),
         }
+    }
+
+    // The polynomial with these terms.
+    fn of(alloc: Global, terms: Vec<Term>) -> Result<Poly, AllocError>
+        requires { IsPoly terms.items }
+        ensures { IfOk result (λ p. p ≡ terms.items) }
+    {
+        let terms = SharedTerms::of(alloc, terms)?;
+        Ok(Poly { terms })
     }
 
     /// The constant polynomial of a number. It fails only where no memory is left.
@@ -134,7 +145,7 @@ impl Poly {
                 coeff: n,
             })?;
         }
-        Ok(Poly { terms })
+        Poly::of(alloc, terms)
     }
 
     /// The polynomial of a variable. It fails only where no memory is left.
@@ -144,14 +155,14 @@ impl Poly {
         let monomial = Monomial::power(alloc, var, 1)?;
         let mut terms = Vec::new(alloc);
         terms.push(Term { monomial, coeff: 1 })?;
-        Ok(Poly { terms })
+        Poly::of(alloc, terms)
     }
 
-    /// An equal polynomial. It fails only where no memory is left.
+    /// An equal polynomial, which owns its terms together with this one. It fails only where they can't have one more owner.
     pub fn copy(&self) -> Result<Poly, AllocError>
         ensures { IfOk result (λ p. p ≡ self.now) }
     {
-        let terms = same_terms(*self.terms.allocator(), &self.terms)?;
+        let terms = self.terms.another_owner()?;
         Ok(Poly { terms })
     }
 
@@ -163,10 +174,10 @@ impl Poly {
     {
         let terms = laid(alloc, terms);
         if is_polynomial(&terms) {
-            return Ok(Poly { terms });
+            return Ok(Poly::of(alloc, terms)?);
         }
         let terms = summed(alloc, terms)?;
-        Ok(Poly { terms })
+        Ok(Poly::of(alloc, terms)?)
     }
 
     /// The terms, from the greatest monomial to the least.
@@ -174,7 +185,7 @@ impl Poly {
         ensures value { result.now ≡ self.now }
         ensures poly { IsPoly self.now }
     {
-        &self.terms
+        self.terms.as_slice()
     }
 
     /// Whether this is the constant polynomial 1.
@@ -188,7 +199,7 @@ impl Poly {
     pub fn is_zero(&self) -> bool
         ensures { IsTrue result ↔ (self.now ≡ []) }
     {
-        self.terms.is_empty()
+        self.terms.as_slice().is_empty()
     }
 
     /// The combination `l*q - a*p`. A contribution is the product of one term of each factor, with its sign. `Degree` comes exactly where a
@@ -198,15 +209,16 @@ impl Poly {
         ensures { MatchResult result (IsResult (contributions l.now q.now a.now p.now)) (IsFault (contributions l.now q.now a.now p.now)) }
     {
         let terms = combined(alloc, l.terms(), q.terms(), a.terms(), p.terms())?;
-        Ok(Poly { terms })
+        Ok(Poly::of(alloc, terms)?)
     }
 
     /// The product. Its contributions, `Degree` and `Heavy` are as for `combine`.
     pub fn times(&self, other: &Poly) -> Result<Poly, PolyFault>
         ensures { MatchResult result (IsResult (products self.now other.now)) (IsFault (products self.now other.now)) }
     {
-        let terms = multiplied(*self.terms.allocator(), self.terms(), other.terms())?;
-        Ok(Poly { terms })
+        let alloc = self.terms.allocator();
+        let terms = multiplied(alloc, self.terms(), other.terms())?;
+        Ok(Poly::of(alloc, terms)?)
     }
 
     /// The sum. A contribution is a term of either summand, so `Heavy` comes exactly where the absolute values of the coefficients of a
@@ -215,8 +227,9 @@ impl Poly {
         ensures answer { MatchResult result (IsResult (self.now ++ other.now)) (IsFault (self.now ++ other.now)) }
         ensures degree { IfErr result IsNoDegree }
     {
-        let terms = added(*self.terms.allocator(), self.terms(), other.terms())?;
-        Ok(Poly { terms })
+        let alloc = self.terms.allocator();
+        let terms = added(alloc, self.terms(), other.terms())?;
+        Ok(Poly::of(alloc, terms)?)
     }
 
     /// The primitive part: the polynomial over its content, with a positive leading coefficient, and zero for zero. It fails only where no
@@ -224,11 +237,11 @@ impl Poly {
     pub fn primitive_part(&self) -> Result<Poly, AllocError>
         ensures { IfOk result (λ q. IsPrimitivePart self.now q) }
     {
-        let alloc = *self.terms.allocator();
+        let alloc = self.terms.allocator();
         let terms = self.terms();
         let one = Monomial::one(alloc);
         let rest = quotients(alloc, terms, &one, content_of(terms))?;
-        Ok(Poly { terms: rest })
+        Poly::of(alloc, rest)
     }
 
     /// The polynomial stripped under the units: made primitive, and then divided, as often as it divides, by each variable that is a member of
@@ -237,7 +250,7 @@ impl Poly {
     pub fn strip(&self, units: &[Poly]) -> Result<Stripped, AllocError>
         ensures { IfOk result (λ s. IsStripped units.now self.now s.factor s.rest) }
     {
-        let alloc = *self.terms.allocator();
+        let alloc = self.terms.allocator();
         let terms = self.terms();
         let content = content_of(terms);
         let monomial = unit_monomial(alloc, terms, units)?;
@@ -248,8 +261,8 @@ impl Poly {
             coeff: content,
         })?;
         Ok(Stripped {
-            factor: Poly { terms: factor },
-            rest: Poly { terms: rest },
+            factor: Poly::of(alloc, factor)?,
+            rest: Poly::of(alloc, rest)?,
         })
     }
 
@@ -264,7 +277,7 @@ impl Poly {
         if !ends_divide(whole, divisor) || !degrees_divide(whole, divisor) {
             return Ok(None);
         }
-        let alloc = *self.terms.allocator();
+        let alloc = self.terms.allocator();
         let divisor = without_layout(alloc, divisor)?;
         let [leading, others @ ..] = divisor.as_slice() else {
             return Ok(None);
@@ -272,9 +285,7 @@ impl Poly {
         let Some(terms) = quotient_by(alloc, whole, leading, others)? else {
             return Ok(None);
         };
-        let quotient = Poly {
-            terms: laid(alloc, terms),
-        };
+        let quotient = Poly::of(alloc, laid(alloc, terms))?;
         match quotient.times(n) {
             Ok(_) => Ok(Some(quotient)),
             Err(PolyFault::Degree { .. }) => Ok(None),
@@ -313,8 +324,9 @@ impl Poly {
     pub fn coefficient_in(&self, var: u32, exp: u32) -> Result<Poly, AllocError>
         ensures { IfOk result (λ p. p ≡ coefficient_of_power var exp self.now) }
     {
-        let terms = terms_of_power(*self.terms.allocator(), self.terms(), var, exp)?;
-        Ok(Poly { terms })
+        let alloc = self.terms.allocator();
+        let terms = terms_of_power(alloc, self.terms(), var, exp)?;
+        Poly::of(alloc, terms)
     }
 
     /// The order of polynomials: terms are compared from the greatest monomial down, first by monomial and then by coefficient, and a proper
@@ -322,21 +334,21 @@ impl Poly {
     pub fn order(&self, other: &Poly) -> Ordering
         ensures { result ≡ poly_cmp self.now other.now }
     {
-        order_terms(&self.terms, &other.terms)
+        order_terms(self.terms.as_slice(), other.terms.as_slice())
     }
 
     /// The degree in a variable, which is 0 where it does not occur.
     pub fn degree_in(&self, var: u32) -> u32
         ensures { result ≡ degree_in var self.now }
     {
-        greatest_exponent(&self.terms, var)
+        greatest_exponent(self.terms.as_slice(), var)
     }
 
     /// The main variable, which is the greatest that occurs, and `None` exactly for a constant.
     pub fn main(&self) -> Option<u32>
         ensures { result ≡ main_variable self.now }
     {
-        match self.terms.first() {
+        match self.terms.as_slice().first() {
             Some(term) => term.monomial.top(),
             None => None,
         }
@@ -346,7 +358,7 @@ impl Poly {
     pub fn constant_value(&self) -> Option<i128>
         ensures { MatchOption result (IsSome (main_variable self.now)) (λ n. self.now ≡ constant n) }
     {
-        match self.terms.first() {
+        match self.terms.as_slice().first() {
             Some(term) => match term.monomial.top() {
                 Some(_) => None,
                 None => Some(term.coeff),

@@ -240,17 +240,3 @@ pub fn terms_of_power(
     }
     Ok(found)
 }
-
-/// Equal terms.
-pub fn same_terms(alloc: Global, terms: &[Term]) -> Result<Vec<Term>, AllocError>
-    ensures { IfOk result (λ v. v.items ≡ terms.now) }
-{
-    let mut same = Vec::with_capacity(alloc, terms.len())?;
-    for term in terms {
-        same.push(Term {
-            monomial: term.monomial.copy()?,
-            coeff: term.coeff,
-        })?;
-    }
-    Ok(same)
-}

@@ -1,5 +1,4 @@
-use Rattle.std.proofs.Common.{arith, sym, ◌∙◌, ◌≤◌, length}
-use Rattle.std.proofs.lemmas.Bool.{true≢false}
+use Rattle.std.proofs.Common.{arith, ◌≤◌, length}
 use Rattle.sparse_poly.proofs.OneQuotient.{IsDividedOut-past, passed_at}
 use Rattle.sparse_poly.proofs.Stripped.cleared.Goals as goal
 
@@ -8,6 +7,6 @@ returns c =
     let past : length c.args.units.now ≤ c.loop-unit.unit-index = omega arith in
     c.loop-unit.invariant c.loop-unit.cleared.factor c.loop-unit.cleared.rest (IsDividedOut-past c.args.units.now c.loop-unit.unit-index c.loop-unit.cleared.factor c.loop-unit.cleared.rest past)
 
-pub loop-unit-preserved-then-not-is_in_form : goal.loop-unit-preserved-then-not-is_in_form
-loop-unit-preserved-then-not-is_in_form c = λ e h r.
-    c.loop-unit.invariant e h (passed_at c.args.units.now c.loop-unit.unit-index c.unit-item.result c.loop-unit.cleared.factor c.loop-unit.cleared.rest c.loop-unit-test.true c.unit-item.is (λ i. true≢false (sym (c.is_in_form.ensures.1 i) ∙ c.if-not-is_in_form.true)) e h r)
+pub loop-unit-preserved-then-not-may_divide : goal.loop-unit-preserved-then-not-may_divide
+loop-unit-preserved-then-not-may_divide c = λ e h r.
+    c.loop-unit.invariant e h (passed_at c.args.units.now c.loop-unit.unit-index c.unit-item.result c.loop-unit.cleared.factor c.loop-unit.cleared.rest c.loop-unit-test.true c.unit-item.is (c.may_divide.ensures.none c.if-not-may_divide.true c.args.units.now c.loop-unit.cleared.factor) e h r)
