@@ -1,5 +1,5 @@
 -- Contents and exact quotients.
-use Rattle.std.specs.Prelude.{◌≡◌, ◌≢◌, ◌<◌, ◌≤◌, ℕ, zero, suc, ◌+◌, ◌*◌, ◌/◌, ◌%◌, ◌⊎◌, ℤ, pos, negsuc, neg_ℤ, ◌+ℤ◌, ◌*ℤ◌, ◌<ℤ◌, unsigned_abs, List, [], ◌∷◌, ◌++◌, length, slice_index_or, slice_get, take, drop, int_div, int_rem, refl}
+use Rattle.std.specs.Prelude.{◌≡◌, ◌≢◌, ◌<◌, ◌≤◌, ℕ, zero, suc, ◌+◌, ◌*◌, ◌/◌, ◌%◌, ◌⊎◌, ℤ, pos, negsuc, neg_ℤ, ◌+ℤ◌, ◌*ℤ◌, ◌<ℤ◌, unsigned_abs, List, [], ◌∷◌, ◌++◌, length, slice_index_or, slice_get, take, drop, min, int_div, int_rem, refl}
 use Prim.Native.Nat.{◌∣◌}
 use mathlib.Core.Logic.{inl, inr}
 use Rattle.std.proofs.Common.{arith, sym, ◌∙◌, ap, subst}
@@ -13,14 +13,14 @@ use Rattle.std.specs.List.{AllByRecursion}
 use Rattle.std.specs.declared.option.Option.TheVariants.{Some}
 use Rattle.std.specs.declared.cmp.Ordering.TheVariants.{Less}
 use Rattle.field_laws.specs.Whole.{*ℤ-+ℤ}
-use Rattle.monomial.specs.Monomials.{monomial_cmp, monomial_times, IsMonomial, IsPowers}
+use Rattle.monomial.specs.Monomials.{exponent, monomial_cmp, monomial_times, IsMonomial, IsPowers}
 use Rattle.monomial.proofs.Lower.{monomial_cmp-times_back}
 use Rattle.sparse_poly.specs.declared.Term.{Term}
 use Rattle.sparse_poly.specs.Polynomials.{row, term_times}
 use Rattle.sparse_poly.specs.Contributions.{max_coeff, IsFalling, IsPoly}
 use Rattle.sparse_poly.specs.Primitive.{DividesAll, IsPrimitive}
 use Rattle.sparse_poly.specs.Standing.{AllMonomials}
-use Rattle.sparse_poly.specs.Factors.{IsCommonDivisor, HasLeadingSign, IsSignedSize, IsContent, IsQuotient}
+use Rattle.sparse_poly.specs.Factors.{IsCommonDivisor, HasLeadingSign, IsSignedSize, IsContent, IsQuotient, least_exponent}
 use Rattle.sparse_poly.proofs.Adding.{take_one}
 use Rattle.sparse_poly.proofs.Descending.{all_more}
 use Rattle.sparse_poly.specs.OrderLaws.{same_term}
@@ -198,6 +198,24 @@ range_back t (u ∷ us) n a =
     let less : unsigned_abs u.coeff ≤ unsigned_abs (t.coeff *ℤ u.coeff) = factor_small t.coeff u.coeff (t.coeff *ℤ u.coeff) n refl in
     let small : unsigned_abs (t.coeff *ℤ u.coeff) ≤ max_coeff = a.0 in
     (omega arith, range_back t us n a.1)
+
+-- over the constant 1
+row_of_one : (ts : List Term) → row (record { monomial = []; coeff = pos 1 }) ts ≡ ts
+row_of_one [] = refl
+row_of_one (t ∷ ts) =
+    let one : pos 1 *ℤ t.coeff ≡ t.coeff = grind arith in
+    ap (λ us. (let u : Term = record { monomial = t.monomial; coeff = pos 1 *ℤ t.coeff } in u) ∷ us) (row_of_one ts) ∙ ap (λ (z : ℤ). (let u : Term = record { monomial = t.monomial; coeff = z } in u) ∷ ts) one
+
+pub IsQuotient-one : (ts : List Term) (m : List (ℕ × ℕ)) (c : ℤ) → m ≡ [] → c ≡ pos 1 → IsPoly ts → IsQuotient ts (record { monomial = m; coeff = c }) ts
+IsQuotient-one ts m c e f p =
+    let one : IsQuotient ts (record { monomial = []; coeff = pos 1 }) ts = record { product = row_of_one ts; monomials = p.monomials } in
+    subst (λ (z : ℤ). IsQuotient ts (record { monomial = m; coeff = z }) ts) (sym f) (subst (λ n. IsQuotient ts (record { monomial = n; coeff = pos 1 }) ts) (sym e) one)
+
+pub least_exponent-zero : (v : ℕ) (ts : List Term) → least_exponent v 0 ts ≡ 0
+least_exponent-zero v [] = refl
+least_exponent-zero v (t ∷ ts) =
+    let least : min 0 (exponent t.monomial v) ≡ 0 = omega arith in
+    ap (λ n. least_exponent v n ts) least ∙ least_exponent-zero v ts
 
 pub IsPoly-quotient : (ts : List Term) (t : Term) (qs : List Term) → IsPoly ts → IsPowers t.monomial → t.coeff ≢ pos 0 → IsQuotient ts t qs → IsPoly qs
 IsPoly-quotient ts t qs h g n q =

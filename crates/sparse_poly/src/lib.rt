@@ -8,7 +8,8 @@ ghost use Rattle.sparse_poly.specs.declared.Term.{Term};
 ghost use Rattle.sparse_poly.specs.Polynomials.{products, constant, variable};
 ghost use Rattle.sparse_poly.specs.Contributions.{max_coeff, contributions, IsPoly, IsResult, IsFault, IsNoDegree};
 ghost use Rattle.sparse_poly.specs.Order.{poly_cmp, term_cmp};
-ghost use Rattle.sparse_poly.specs.Primitive.{IsPrimitivePart};
+ghost use Rattle.sparse_poly.specs.Primitive.{DividesAll, IsPrimitivePart};
+ghost use Rattle.sparse_poly.specs.Factors.{AllDivided, IsQuotient};
 ghost use Rattle.sparse_poly.specs.Units.{IsStripped, IsOneOrMember};
 ghost use Rattle.sparse_poly.specs.Clearing.{DividesOpenly, IsCleared, IsUnit};
 ghost use Rattle.sparse_poly.specs.Reads.{degree_in, main_variable, coefficient_of_power};
@@ -237,10 +238,25 @@ impl Poly {
     pub fn primitive_part(&self) -> Result<Poly, AllocError>
         ensures { IfOk result (λ q. IsPrimitivePart self.now q) }
     {
-        let alloc = self.terms.allocator();
         let terms = self.terms();
-        let one = Monomial::one(alloc);
-        let rest = quotients(alloc, terms, &one, content_of(terms))?;
+        let one = Monomial::one(self.terms.allocator());
+        self.over(&one, content_of(terms))
+    }
+
+    // The polynomial over a monomial and a number that divide it. Over 1 it owns its terms together with this one.
+    fn over(&self, monomial: &Monomial, divisor: i128) -> Result<Poly, AllocError>
+        requires nonzero { divisor ≢ pos 0 }
+        requires number { DividesAll (unsigned_abs divisor) self.now }
+        requires monomials { AllDivided monomial.now self.now }
+        ensures { IfOk result (λ p. IsQuotient self.now (record { monomial = monomial.now; coeff = divisor }) p) }
+    {
+        let terms = self.terms();
+        let powers = monomial.len();
+        if powers == 0 && divisor == 1 {
+            return self.copy();
+        }
+        let alloc = self.terms.allocator();
+        let rest = quotients(alloc, terms, monomial, divisor)?;
         Poly::of(alloc, rest)
     }
 
@@ -254,7 +270,7 @@ impl Poly {
         let terms = self.terms();
         let content = content_of(terms);
         let monomial = unit_monomial(alloc, terms, units)?;
-        let rest = quotients(alloc, terms, &monomial, content)?;
+        let rest = self.over(&monomial, content)?;
         let mut factor = Vec::new(alloc);
         factor.push(Term {
             monomial,
@@ -262,7 +278,7 @@ impl Poly {
         })?;
         Ok(Stripped {
             factor: Poly::of(alloc, factor)?,
-            rest: Poly::of(alloc, rest)?,
+            rest,
         })
     }
 

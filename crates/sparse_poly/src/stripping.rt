@@ -139,6 +139,9 @@ fn least_exponent(terms: &[Term], power: (u32, u16)) -> u32
 {
     let mut least = u32::from(power.1);
     for term in terms {
+        if least == 0 {
+            return 0;
+        }
         least = least.min(term.monomial.exponent(power.0));
     }
     least
