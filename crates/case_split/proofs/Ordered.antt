@@ -24,6 +24,8 @@ use Rattle.case_rules.specs.Rules.{None_has, IsLinearIn, IsOtherWith, IsLinearAt
 use Rattle.case_rules.proofs.EndsBelong.{below_at}
 use Rattle.case_rules.proofs.Regular.{polys_at, polys_length}
 use Rattle.case_split.specs.Found.{None_below, AreInOrder, HaveMain, IsPair, IsFirstWith}
+use Rattle.case_split.specs.declared.linear.Passed.{Passed}
+use Rattle.case_split.specs.Searched.{IsPassedWith, IsPassed}
 use Rattle.case_split.proofs.LeadingTerms.{alone, lower_zero, linear_leading, linear_alone, top_exponent, leading_degree_in}
 
 lower_variable : (a b : List (ℕ × ℕ)) (v w : ℕ) → IsPowers a → IsPowers b → top a ≡ Some v → top b ≡ Some w → IsLower a b → v ≤ w
@@ -148,6 +150,28 @@ module _ (c : CaseState) (s : AreInOrder c) where
     q = p;
     other = record { place = l; other = λ e. x.other (sym e); contains = (let d = h.degree in omega (arith, d)) };
   })
+
+  -- of the equations that are passed only this one contains its variable
+  pub none_passed : (p v : ℕ) (passed : Passed) → p < count c → IsLinearIn (poly c p) v → passed.var ≡ v → p < passed.first → IsPassed c passed → None_below (IsOtherWith c p v) passed.first
+  none_passed p v passed l h e k a j b x = x.other (a j p (record {
+    passed = b;
+    place = x.place;
+    contains = subst (λ w. 0 < degree_in w (poly c j)) (sym e) x.contains;
+  }) (record { passed = k; place = l; contains = subst (λ w. 0 < degree_in w (poly c p)) (sym e) (let d = h.degree in omega (arith, d)) }))
+
+  pub one_passed : (p v n : ℕ) → ((i : ℕ) → i < n → ¬ IsOtherWith c p v i) → IsPassed c (record { var = v; first = n })
+  one_passed p v n h i j x y = is_p i x ∙ sym (is_p j y)
+    where
+      is_p : (i : ℕ) → IsPassedWith c (record { var = v; first = n }) i → i ≡ p
+      is_p i x = each (cases_order i p)
+        where
+          is_other : i ≢ p → i ≡ p
+          is_other d = absurd (h i x.passed (record { place = x.place; other = d; contains = x.contains }))
+
+          each : (i ≡ p) ⊎ ((i < p) ⊎ (p < i)) → i ≡ p
+          each (inl e) = e
+          each (inr (inl k)) = is_other (λ e. absurd (omega (arith, e, k)))
+          each (inr (inr k)) = is_other (λ e. absurd (omega (arith, e, k)))
 
   some_main : (o : Option ℕ) → o ≢ None → (v : ℕ) × (o ≡ Some v)
   some_main None n = absurd (n refl)

@@ -35,6 +35,11 @@ pub record IsLeftOf (n q m : ℕ) : Type 0 where
   pub before : (i : ℕ) → i < m → i < q → i < n
   pub after : (i : ℕ) → i < m → q ≤ i → i + 1 < n
 
+-- the first n places go up to m, once something new may come to a place
+abbrev pub IsMovedBy : Option ℕ → ℕ → ℕ → Type 0
+IsMovedBy None n m = m ≤ n
+IsMovedBy (Some k) n m = (k ≤ n → m ≤ n + 1) × (n < k → m ≤ n)
+
 -- a polynomial is a variable
 abbrev pub IsVariable : List Term → Type 0
 IsVariable p = (v : ℕ) × (p ≡ variable v)

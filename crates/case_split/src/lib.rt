@@ -3,6 +3,7 @@
 
 mod conditions;
 mod ends;
+mod linear;
 mod pairs;
 mod rules;
 mod run;
