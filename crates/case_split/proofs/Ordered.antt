@@ -25,7 +25,7 @@ use Rattle.case_rules.proofs.EndsBelong.{below_at}
 use Rattle.case_rules.proofs.Regular.{polys_at, polys_length}
 use Rattle.case_split.specs.Found.{None_below, AreInOrder, HaveMain, IsPair, IsFirstWith}
 use Rattle.case_split.specs.declared.linear.Passed.{Passed}
-use Rattle.case_split.specs.Searched.{IsPassedWith, IsPassed}
+use Rattle.case_split.specs.Searched.{IsPassed}
 use Rattle.case_split.proofs.LeadingTerms.{alone, lower_zero, linear_leading, linear_alone, top_exponent, leading_degree_in}
 
 lower_variable : (a b : List (ℕ × ℕ)) (v w : ℕ) → IsPowers a → IsPowers b → top a ≡ Some v → top b ≡ Some w → IsLower a b → v ≤ w
@@ -45,7 +45,7 @@ lower_variable a b v w h i e f l = each (cases_order v w)
     each (inr (inr x)) = absurd (higher x)
 
 -- of two polynomials in order the leading monomials are in order
-leading_order : (t : Term) (ts : List Term) (u : Term) (us : List Term) → poly_cmp (t ∷ ts) (u ∷ us) ≡ Less → (monomial_cmp t.monomial u.monomial ≡ Less) ⊎ (t.monomial ≡ u.monomial)
+pub leading_order : (t : Term) (ts : List Term) (u : Term) (us : List Term) → poly_cmp (t ∷ ts) (u ∷ us) ≡ Less → (monomial_cmp t.monomial u.monomial ≡ Less) ⊎ (t.monomial ≡ u.monomial)
 leading_order t ts u us e = each (monomial_cmp t.monomial u.monomial) refl e
   where
     each : (o : Ordering) → monomial_cmp t.monomial u.monomial ≡ o → ordering_then (ordering_then o (int_cmp t.coeff u.coeff)) (poly_cmp ts us) ≡ Less → (monomial_cmp t.monomial u.monomial ≡ Less) ⊎ (t.monomial ≡ u.monomial)
@@ -158,20 +158,6 @@ module _ (c : CaseState) (s : AreInOrder c) where
     place = x.place;
     contains = subst (λ w. 0 < degree_in w (poly c j)) (sym e) x.contains;
   }) (record { passed = k; place = l; contains = subst (λ w. 0 < degree_in w (poly c p)) (sym e) (let d = h.degree in omega (arith, d)) }))
-
-  pub one_passed : (p v n : ℕ) → ((i : ℕ) → i < n → ¬ IsOtherWith c p v i) → IsPassed c (record { var = v; first = n })
-  one_passed p v n h i j x y = is_p i x ∙ sym (is_p j y)
-    where
-      is_p : (i : ℕ) → IsPassedWith c (record { var = v; first = n }) i → i ≡ p
-      is_p i x = each (cases_order i p)
-        where
-          is_other : i ≢ p → i ≡ p
-          is_other d = absurd (h i x.passed (record { place = x.place; other = d; contains = x.contains }))
-
-          each : (i ≡ p) ⊎ ((i < p) ⊎ (p < i)) → i ≡ p
-          each (inl e) = e
-          each (inr (inl k)) = is_other (λ e. absurd (omega (arith, e, k)))
-          each (inr (inr k)) = is_other (λ e. absurd (omega (arith, e, k)))
 
   some_main : (o : Option ℕ) → o ≢ None → (v : ℕ) × (o ≡ Some v)
   some_main None n = absurd (n refl)

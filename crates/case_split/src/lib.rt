@@ -2,6 +2,7 @@
 #![tactic(auto)]
 
 mod conditions;
+mod dead;
 mod ends;
 mod linear;
 mod pairs;

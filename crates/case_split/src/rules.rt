@@ -1,12 +1,11 @@
 //! The rules of the strategy.
-ghost use Rattle.std.specs.Prelude.{◌≡◌, ◌≢◌, ◌<◌, ◌↔◌, IfOk, IsTrue, MatchOption};
+ghost use Rattle.std.specs.Prelude.{◌≢◌, ◌<◌, IfOk, MatchOption};
 ghost use Rattle.std.specs.declared.option.Option.TheVariants.{None, Some};
 ghost use Rattle.sparse_poly.specs.Polynomials.{variable};
 ghost use Rattle.sparse_poly.specs.Reads.{main_variable};
-ghost use Rattle.derive_lines.specs.Refuting.{IsNonzeroConstant, IsContradiction};
 ghost use Rattle.case_rules.specs.Cases.{known, poly, count};
-ghost use Rattle.case_rules.specs.Rules.{IsLeast, None_has, IsAlive, IsDeadAt, IsFactorAt, IsFactorMove, IsUndecidedAt, IsMove, IsSettled};
-ghost use Rattle.case_split.specs.Found.{IsOnlyAt, IsSomePlace, AreInOrder, HaveMain, AreDecided, IsSplitFor};
+ghost use Rattle.case_rules.specs.Rules.{IsLeast, None_has, IsAlive, IsFactorAt, IsFactorMove, IsUndecidedAt, IsMove, IsSettled};
+ghost use Rattle.case_split.specs.Found.{AreInOrder, HaveMain, AreDecided, IsSplitFor};
 ghost use Rattle.case_split.specs.Searched.{IsSearched};
 
 use crate::linear::{Progress, linear_move};
@@ -15,7 +14,7 @@ use crate::variables::{is_variable, lowest_dividing};
 use case_rules::Move;
 use case_state::Case;
 use char_set::decided;
-use sparse_poly::{Poly, contains};
+use sparse_poly::Poly;
 use std::alloc::{AllocError, Global};
 
 /// A reduction of equation `q` by equation `p` in a variable.
@@ -24,49 +23,6 @@ pub struct Operands {
     pub q: u64,
     pub p: u64,
     pub var: u32,
-}
-
-/// The least equation that is a nonzero constant or a known condition.
-pub fn dead_at(case: &Case) -> Option<u64>
-    ensures { MatchOption result (IsAlive case.now) (IsLeast (IsDeadAt case.now)) }
-{
-    let equations = case.equations();
-    for i in 0..equations.len() {
-        if is_contradiction(equations.at(i), case.known()) {
-            return Some(i);
-        }
-    }
-    None
-}
-
-/// The equation that is a contradiction, where only that at a place can be one.
-pub fn dead_after(case: &Case, at: Option<u64>) -> Option<u64>
-    requires place { IsSomePlace case.now at }
-    requires only { IsOnlyAt (IsDeadAt case.now) at }
-    ensures { MatchOption result (IsAlive case.now) (IsLeast (IsDeadAt case.now)) }
-{
-    let i = at?;
-    if is_contradiction(case.equations().at(i), case.known()) {
-        return Some(i);
-    }
-    None
-}
-
-// Whether a polynomial is a nonzero constant or a known condition.
-fn is_contradiction(poly: &Poly, known: &[Poly]) -> bool
-    ensures { IsTrue result ↔ IsContradiction known.now poly.now }
-{
-    is_nonzero_constant(poly) || contains(known, poly)
-}
-
-// Whether a polynomial is a nonzero constant.
-fn is_nonzero_constant(poly: &Poly) -> bool
-    ensures { IsTrue result ↔ IsNonzeroConstant poly.now }
-{
-    match poly.constant_value() {
-        Some(n) => n != 0,
-        None => false,
-    }
 }
 
 /// The move that is due, by the first of the rules Linear, Factor, Pair and Initial that applies. The search by Linear goes on where it stopped.

@@ -4,9 +4,10 @@ ghost use Rattle.case_rules.specs.Belonging.{Belongs};
 ghost use Rattle.case_rules.specs.Ends.{IsEnd};
 
 use crate::conditions::settled;
+use crate::dead::{dead_after, dead_at};
 use crate::ends::{dead, leaf, split, stopped_reduction};
 use crate::linear::{Passed, Progress, done_after, left_of, moved_by, passed_after, passed_left};
-use crate::rules::{Operands, dead_after, dead_at, due_move};
+use crate::rules::{Operands, due_move};
 use case_rules::{Move, Outcome, belongs_law, move_law};
 use case_state::Case;
 use leaf_cert::{Leaf, LeafEnd, OpenCause};
