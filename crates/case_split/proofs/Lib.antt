@@ -4,3 +4,4 @@ mod Due
 mod LeadingBack
 mod Reducing
 mod Running
+mod Dying

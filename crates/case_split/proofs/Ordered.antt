@@ -24,6 +24,8 @@ use Rattle.case_rules.specs.Rules.{None_has, IsLinearIn, IsOtherWith, IsLinearAt
 use Rattle.case_rules.proofs.EndsBelong.{below_at}
 use Rattle.case_rules.proofs.Regular.{polys_at, polys_length}
 use Rattle.case_split.specs.Found.{None_below, AreInOrder, HaveMain, IsPair, IsFirstWith}
+use Rattle.case_split.specs.declared.linear.Passed.{Passed}
+use Rattle.case_split.specs.Searched.{IsPassed}
 use Rattle.case_split.proofs.LeadingTerms.{alone, lower_zero, linear_leading, linear_alone, top_exponent, leading_degree_in}
 
 lower_variable : (a b : List (ℕ × ℕ)) (v w : ℕ) → IsPowers a → IsPowers b → top a ≡ Some v → top b ≡ Some w → IsLower a b → v ≤ w
@@ -43,7 +45,7 @@ lower_variable a b v w h i e f l = each (cases_order v w)
     each (inr (inr x)) = absurd (higher x)
 
 -- of two polynomials in order the leading monomials are in order
-leading_order : (t : Term) (ts : List Term) (u : Term) (us : List Term) → poly_cmp (t ∷ ts) (u ∷ us) ≡ Less → (monomial_cmp t.monomial u.monomial ≡ Less) ⊎ (t.monomial ≡ u.monomial)
+pub leading_order : (t : Term) (ts : List Term) (u : Term) (us : List Term) → poly_cmp (t ∷ ts) (u ∷ us) ≡ Less → (monomial_cmp t.monomial u.monomial ≡ Less) ⊎ (t.monomial ≡ u.monomial)
 leading_order t ts u us e = each (monomial_cmp t.monomial u.monomial) refl e
   where
     each : (o : Ordering) → monomial_cmp t.monomial u.monomial ≡ o → ordering_then (ordering_then o (int_cmp t.coeff u.coeff)) (poly_cmp ts us) ≡ Less → (monomial_cmp t.monomial u.monomial ≡ Less) ⊎ (t.monomial ≡ u.monomial)
@@ -148,6 +150,14 @@ module _ (c : CaseState) (s : AreInOrder c) where
     q = p;
     other = record { place = l; other = λ e. x.other (sym e); contains = (let d = h.degree in omega (arith, d)) };
   })
+
+  -- of the equations that are passed only this one contains its variable
+  pub none_passed : (p v : ℕ) (passed : Passed) → p < count c → IsLinearIn (poly c p) v → passed.var ≡ v → p < passed.first → IsPassed c passed → None_below (IsOtherWith c p v) passed.first
+  none_passed p v passed l h e k a j b x = x.other (a j p (record {
+    passed = b;
+    place = x.place;
+    contains = subst (λ w. 0 < degree_in w (poly c j)) (sym e) x.contains;
+  }) (record { passed = k; place = l; contains = subst (λ w. 0 < degree_in w (poly c p)) (sym e) (let d = h.degree in omega (arith, d)) }))
 
   some_main : (o : Option ℕ) → o ≢ None → (v : ℕ) × (o ≡ Some v)
   some_main None n = absurd (n refl)

@@ -35,7 +35,9 @@ use Rattle.case_rules.proofs.Regular.{polys_at, polys_length}
 use Rattle.case_rules.proofs.Sides.{division_sides, powers_of}
 use Rattle.case_system.specs.Places.{HasPlace}
 use Rattle.case_state.specs.Places.{IsReducedAt}
-use Rattle.case_split.specs.Found.{None_below, IsOnlyAt, IsSomePlace, IsLeftOf, AreInOrder}
+use Rattle.case_split.specs.Found.{None_below, IsOnlyAt, IsSomePlace, IsLeftOf, IsMovedBy, AreInOrder}
+use Rattle.case_split.specs.declared.linear.Passed.{Passed}
+use Rattle.case_split.specs.Searched.{IsPassedWith, IsPassed, IsPassedBut, IsSearched}
 use Rattle.case_split.proofs.Due.{poly_of}
 
 -- a quotient has no higher degree than what was divided
@@ -80,6 +82,10 @@ same_place c i j s l m e = each (cases_order i j)
     each (inr (inl x)) = absurd (not_less (poly c i) (poly c j) e (below_at [] c.equations i j s.ascending.ascending x m))
     each (inr (inr x)) = absurd (not_less (poly c j) (poly c i) (sym e) (below_at [] c.equations j i s.ascending.ascending x l))
 
+-- at first nothing is searched
+pub searched_none : (c : CaseState) → IsSearched c (record { done = 0; passed = record { var = 0; first = 0 } })
+searched_none c = record { done = λ i l. absurd (omega (arith, l)); passed = λ i j x y. let l = x.passed in absurd (omega (arith, l)) }
+
 -- the main variable of the equation that reduces
 pub main_of_move : (c : CaseState) (m : Move) (q p v : ℕ) → m ≡ move_.Reduce q p v → IsMove c m → main_variable (poly c p) ≡ Some v
 main_of_move c m q p v e h = each m h e
@@ -104,21 +110,28 @@ module _ (c : CaseState) (q p v : ℕ) (at : Option ℕ) (d : CaseState) (s : Is
   same_known : known c ≡ known d
   same_known = sym (ap known s.reduced.is)
 
-  -- an equation that was there, and where it stood
+  -- an equation that was there, and where it stood; the first is for those that are left before the new one comes
+  record WasLeft (i : ℕ) (x : List Term) : Type 0 where
+    pub place : ℕ
+    pub within : place < count c
+    pub stays : place ≢ q
+    pub same : x ≡ poly c place
+    pub below : (n l : ℕ) → IsLeftOf n q l → i < l → place < n
+
   record WasAt (i : ℕ) (x : List Term) : Type 0 where
     pub place : ℕ
     pub within : place < count c
     pub stays : place ≢ q
     pub same : x ≡ poly c place
-    pub below : (n m : ℕ) → IsLeftOf n q m → i < m → place < n
+    pub below : (n l m : ℕ) → IsLeftOf n q l → IsMovedBy at l m → i < m → place < n
 
-  was_left : (i : ℕ) → i < length left → WasAt i (equation_at left i).poly
+  was_left : (i : ℕ) → i < length left → WasLeft i (equation_at left i).poly
   was_left i l = each (cases_lt i q)
     where
       long : length left + 1 ≡ count c
       long = length-remove c.equations q can.q_place
 
-      each : (i < q) ⊎ (q ≤ i) → WasAt i (equation_at left i).poly
+      each : (i < q) ⊎ (q ≤ i) → WasLeft i (equation_at left i).poly
       each (inl x) = record {
         place = i;
         within = omega (arith, l, long);
@@ -134,8 +147,25 @@ module _ (c : CaseState) (q p v : ℕ) (at : Option ℕ) (d : CaseState) (s : Is
         below = λ n m h k. h.after i k x;
       }
 
-  earlier : (i j : ℕ) (x : List Term) → j ≤ i → WasAt j x → WasAt i x
-  earlier i j x l h = record { place = h.place; within = h.within; stays = h.stays; same = h.same; below = λ n m a k. h.below n m a (omega (arith, l, k)) }
+  moved : (i j : ℕ) (x : List Term) → ((l m : ℕ) → IsMovedBy at l m → i < m → j < l) → WasLeft j x → WasAt i x
+  moved i j x f h = record { place = h.place; within = h.within; stays = h.stays; same = h.same; below = λ n l m a b k. h.below n l a (f l m b k) }
+
+  moved_none : (i l m : ℕ) → at ≡ None → IsMovedBy at l m → i < m → i < l
+  moved_none i l m e h k = let b : m ≤ l = subst (λ o. IsMovedBy o l m) e h in omega (arith, b, k)
+
+  moved_before : (i k l m : ℕ) → at ≡ Some k → i < k → IsMovedBy at l m → i < m → i < l
+  moved_before i k l m e x h y = each (subst (λ o. IsMovedBy o l m) e h) (cases_lt l k)
+    where
+      each : IsMovedBy (Some k) l m → (l < k) ⊎ (k ≤ l) → i < l
+      each g (inl z) = let b = g.1 z in omega (arith, b, y)
+      each g (inr z) = omega (arith, x, z)
+
+  moved_after : (i j k l m : ℕ) → at ≡ Some k → i ≡ j + 1 → IsMovedBy at l m → i < m → j < l
+  moved_after i j k l m e x h y = each (subst (λ o. IsMovedBy o l m) e h) (cases_lt l k)
+    where
+      each : IsMovedBy (Some k) l m → (l < k) ⊎ (k ≤ l) → j < l
+      each g (inl z) = let b = g.1 z in omega (arith, b, x, y)
+      each g (inr z) = let b = g.0 z in omega (arith, b, x, y)
 
   came : (i : ℕ) → i < count d → WasAt i (poly d i) ⊎ ((at ≡ Some i) × (poly d i ≡ rest))
   came i l = by_place at refl s.place
@@ -146,7 +176,7 @@ module _ (c : CaseState) (q p v : ℕ) (at : Option ℕ) (d : CaseState) (s : Is
           let long : count d ≡ length left = sym (polys_length d.equations) ∙ ap length same ∙ polys_length left in
           let k : i < length left = omega (arith, l, long) in
           let own : poly d i ≡ (equation_at left i).poly = sym (polys_at d.equations i [] l) ∙ ap (λ ps. slice_index_or ps i []) same ∙ polys_at left i [] k in
-          inl (subst (WasAt i) (sym own) (was_left i k))
+          inl (subst (WasAt i) (sym own) (moved i i (equation_at left i).poly (λ l m. moved_none i l m e) (was_left i k)))
       by_place (Some k) e h = each (cases_order i k)
         where
           made_of : d.equations ≡ insert left k s.reduced.rest
@@ -161,14 +191,14 @@ module _ (c : CaseState) (q p v : ℕ) (at : Option ℕ) (d : CaseState) (s : Is
           after : (j : ℕ) → i ≡ j + 1 → k ≤ j → WasAt i (poly d i)
           after j g m =
               let same : poly d i ≡ (equation_at left j).poly = own i ∙ ap (λ n. (equation_at (insert left k s.reduced.rest) n).poly) g ∙ ap (λ (e : Equation). e.poly) (get_or-insert_above left k s.reduced.rest no_equation j m h.0) in
-              subst (WasAt i) (sym same) (earlier i j (equation_at left j).poly (omega (arith, g)) (was_left j (omega (arith, l, long, g))))
+              subst (WasAt i) (sym same) (moved i j (equation_at left j).poly (λ l m. moved_after i j k l m e g) (was_left j (omega (arith, l, long, g))))
 
           each : (i ≡ k) ⊎ ((i < k) ⊎ (k < i)) → WasAt i (poly d i) ⊎ ((at ≡ Some i) × (poly d i ≡ rest))
           each (inl x) = inr (e ∙ ap Some (sym x), own i ∙ ap (λ n. (equation_at (insert left k s.reduced.rest) n).poly) x ∙ ap (λ (e : Equation). e.poly) (get_or-insert_at left k s.reduced.rest no_equation h.0))
           each (inr (inl x)) =
               let same : poly d i ≡ (equation_at left i).poly = own i ∙ ap (λ (e : Equation). e.poly) (get_or-insert_below left k s.reduced.rest no_equation i x h.0) in
               let k' : i < length left = (let b = h.0 in omega (arith, x, b)) in
-              inl (subst (WasAt i) (sym same) (was_left i k'))
+              inl (subst (WasAt i) (sym same) (moved i i (equation_at left i).poly (λ l m. moved_before i k l m e x) (was_left i k')))
           each (inr (inr x)) = inl (after (i - 1) (omega (arith, x)) (omega (arith, x)))
 
   pub some_place : IsSomePlace d at
@@ -204,8 +234,8 @@ module _ (c : CaseState) (q p v : ℕ) (at : Option ℕ) (d : CaseState) (s : Is
           absurd (omega (arith, l, less, no_more, y))
 
   -- of the equations that were not due by Linear only the new one may be so
-  pub only_linear : (n m : ℕ) → AreInOrder c → AreInOrder d → main_variable (poly c p) ≡ Some v → None_below (IsLinearAt c) n → IsLeftOf n q m → (i : ℕ) → i < m → IsLinearAt d i → at ≡ Some i
-  only_linear n m o o' g none b i l h = each (came i h.place)
+  pub only_linear : (n k m : ℕ) → AreInOrder c → AreInOrder d → main_variable (poly c p) ≡ Some v → None_below (IsLinearAt c) n → IsLeftOf n q k → IsMovedBy at k m → (i : ℕ) → i < m → IsLinearAt d i → at ≡ Some i
+  only_linear n k m o o' g none b b' i l h = each (came i h.place)
     where
       each : WasAt i (poly d i) ⊎ ((at ≡ Some i) × (poly d i ≡ rest)) → at ≡ Some i
       each (inr x) = x.0
@@ -215,7 +245,7 @@ module _ (c : CaseState) (q p v : ℕ) (at : Option ℕ) (d : CaseState) (s : Is
           own = subst (λ x. IsLinearIn x h.v) w.same h.linear
 
           not_due : (j : ℕ) → IsOtherWith c w.place h.v j → ⊥
-          not_due j x = none w.place (w.below n m b l) (record { place = w.within; v = h.v; linear = own; q = j; other = x })
+          not_due j x = none w.place (w.below n k m b b' l) (record { place = w.within; v = h.v; linear = own; q = j; other = x })
 
           by_q : 0 < degree_in h.v (poly c q) → ⊥
           by_q x = not_due q (record { place = can.q_place; other = λ e. w.stays (sym e); contains = x })
@@ -246,3 +276,23 @@ module _ (c : CaseState) (q p v : ℕ) (at : Option ℕ) (d : CaseState) (s : Is
             other = λ e. x.other (same_place d j i o' x.place h.place (y.same ∙ ap (poly c) e ∙ sym w.same));
             contains = subst (λ r. 0 < degree_in h.v r) y.same x.contains;
           })
+
+  -- of the equations that were passed at most one contains the variable, apart from the new one
+  pub only_passed : (before now : Passed) → AreInOrder d → IsPassed c before → now.var ≡ before.var → IsLeftOf before.first q now.first → IsPassedBut d at now
+  only_passed before now o h e b i j x y no_i no_j = each (came i x.place) (came j y.place)
+    where
+      not_moved : (o : Option ℕ) (k : ℕ) → IsMovedBy o k k
+      not_moved None k = omega arith
+      not_moved (Some m) k = (λ l. omega arith, λ l. omega arith)
+
+      was : (i : ℕ) → IsPassedWith d now i → (u : WasAt i (poly d i)) → IsPassedWith c before u.place
+      was i x u = record {
+        passed = u.below before.first now.first now.first b (not_moved at now.first) x.passed;
+        place = u.within;
+        contains = subst (λ w. 0 < degree_in w (poly c u.place)) e (subst (λ r. 0 < degree_in now.var r) u.same x.contains);
+      }
+
+      each : WasAt i (poly d i) ⊎ ((at ≡ Some i) × (poly d i ≡ rest)) → WasAt j (poly d j) ⊎ ((at ≡ Some j) × (poly d j ≡ rest)) → i ≡ j
+      each (inr e) g = absurd (no_i e.0)
+      each (inl u) (inr e) = absurd (no_j e.0)
+      each (inl u) (inl z) = same_place d i j o x.place y.place (u.same ∙ ap (poly c) (h u.place z.place (was i x u) (was j y z)) ∙ sym z.same)

@@ -1,5 +1,6 @@
 -- What the rules find.
 use Rattle.std.specs.Prelude.{◌≡◌, ◌≢◌, ◌≤◌, ◌<◌, ℕ, ◌+◌, List, All}
+use Rattle.std.specs.List.{Contains}
 use Rattle.std.specs.declared.option.Option.{Option}
 use Rattle.std.specs.declared.option.Option.TheVariants.{None, Some}
 use Rattle.sparse_poly.specs.declared.Term.{Term}
@@ -25,6 +26,12 @@ None_below P n = (i : ℕ) → i < n → ¬ P i
 abbrev pub IsOnlyAt : (ℕ → Type 0) → Option ℕ → Type 0
 IsOnlyAt P at = (i : ℕ) → P i → at ≡ Some i
 
+-- place r is the first of n at which one of some polynomials stands, or n where none does
+pub record IsFirstOf (c : CaseState) (ps : List (List Term)) (n r : ℕ) : Type 0 where
+  pub within : r ≤ n
+  pub none_below : (j : ℕ) → j < r → ¬ Contains ps (poly c j)
+  pub stands : r ≢ n → Contains ps (poly c r)
+
 -- an equation stands at this place, or there is no place
 abbrev pub IsSomePlace : CaseState → Option ℕ → Type 0
 IsSomePlace c None = Unit {0}
@@ -34,6 +41,11 @@ IsSomePlace c (Some i) = i < count c
 pub record IsLeftOf (n q m : ℕ) : Type 0 where
   pub before : (i : ℕ) → i < m → i < q → i < n
   pub after : (i : ℕ) → i < m → q ≤ i → i + 1 < n
+
+-- the first n places go up to m, once something new may come to a place
+abbrev pub IsMovedBy : Option ℕ → ℕ → ℕ → Type 0
+IsMovedBy None n m = m ≤ n
+IsMovedBy (Some k) n m = (k ≤ n → m ≤ n + 1) × (n < k → m ≤ n)
 
 -- a polynomial is a variable
 abbrev pub IsVariable : List Term → Type 0

@@ -2,7 +2,9 @@
 #![tactic(auto)]
 
 mod conditions;
+mod dead;
 mod ends;
+mod linear;
 mod pairs;
 mod rules;
 mod run;

@@ -2,11 +2,12 @@
 ghost use Rattle.std.specs.Prelude.{◌≤◌, IfOk};
 ghost use Rattle.case_rules.specs.Belonging.{Belongs};
 ghost use Rattle.case_rules.specs.Ends.{IsEnd};
-ghost use Rattle.case_split.specs.Found.{IsLeftOf};
 
 use crate::conditions::settled;
+use crate::dead::{dead_after, dead_at};
 use crate::ends::{dead, leaf, split, stopped_reduction};
-use crate::rules::{Operands, dead_after, dead_at, done_after, due_move};
+use crate::linear::{Passed, Progress, done_after, left_of, moved_by, passed_after, passed_left};
+use crate::rules::{Operands, due_move};
 use case_rules::{Move, Outcome, belongs_law, move_law};
 use case_state::{Case, SharedCase};
 use leaf_cert::{Leaf, LeafEnd, OpenCause};
@@ -34,9 +35,12 @@ pub fn run_case(
     if let Some(i) = dead_at(&now) {
         return dead(alloc, root, &now, i);
     }
-    let mut done = 0;
+    let mut progress = Progress {
+        done: 0,
+        passed: Passed { var: 0, first: 0 },
+    };
     'moves: loop {
-        let Some(due) = due_move(alloc, &now, &mut done)? else {
+        let Some(due) = due_move(alloc, &now, &mut progress)? else {
             return settled(alloc, root, &now);
         };
         if now.moves() >= budget {
@@ -57,13 +61,9 @@ pub fn run_case(
         if let Some(i) = dead_after(&now, at) {
             return dead(alloc, root, &now, i);
         }
-        done = done_after(&now, left_of(done, operands.q), at);
+        progress = Progress {
+            done: done_after(&now, moved_by(left_of(progress.done, operands.q), at), at),
+            passed: passed_after(&now, passed_left(progress.passed, operands.q), at),
+        };
     }
-}
-
-// How many of the first equations are left where equation q is taken out.
-fn left_of(first: u64, q: u64) -> u64
-    ensures { IsLeftOf first q result }
-{
-    if q < first { first - 1 } else { first }
 }

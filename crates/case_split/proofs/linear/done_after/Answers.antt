@@ -1,6 +1,6 @@
 use Rattle.std.proofs.Common.{rules}
 use Rattle.case_split.proofs.Due.{none_new, none_beyond}
-use Rattle.case_split.proofs.rules.done_after.Goals as goal
+use Rattle.case_split.proofs.linear.done_after.Goals as goal
 
 pub returns-then-i-done : goal.returns-then-i-done
 returns-then-i-done c = none_beyond _ c.args.done c.in-Some.i c.args.at (search rules) (search rules) c.requires.only
