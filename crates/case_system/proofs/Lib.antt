@@ -2,3 +2,4 @@ pub mod BeingCleared
 pub mod Counting
 mod Marking
 pub mod Placing
+mod Turning
