@@ -37,6 +37,9 @@ module _ (P : List Term → ℕ → Type 0) where
   counts_length (e ∷ es) [] h = absurd h
   counts_length (e ∷ es) (k ∷ ks) h = let rest = counts_length es ks h.1 in omega (arith, rest)
 
+  pub counts_both : (es fs : List Equation) (ks ls : List ℕ) → es ≡ fs → ks ≡ ls → AreCounted P fs ls → AreCounted P es ks
+  counts_both es fs ks ls e f h = subst (λ es. AreCounted P es ks) (sym e) (subst (AreCounted P fs) (sym f) h)
+
   pub counts_removed : (es : List Equation) (ks : List ℕ) (i : ℕ) → AreCounted P es ks → AreCounted P (remove es i) (remove ks i)
   counts_removed [] [] zero h = h
   counts_removed [] [] (suc i) h = h
@@ -45,7 +48,7 @@ module _ (P : List Term → ℕ → Type 0) where
   counts_removed (e ∷ es) (k ∷ ks) zero h = h.1
   counts_removed (e ∷ es) (k ∷ ks) (suc i) h = (h.0, counts_removed es ks i h.1)
 
-  counts_inserted : (es : List Equation) (ks : List ℕ) (i : ℕ) (e : Equation) (k : ℕ) → AreCounted P es ks → P e.poly k → AreCounted P (insert es i e) (insert ks i k)
+  pub counts_inserted : (es : List Equation) (ks : List ℕ) (i : ℕ) (e : Equation) (k : ℕ) → AreCounted P es ks → P e.poly k → AreCounted P (insert es i e) (insert ks i k)
   counts_inserted es ks zero e k h p = (p, h)
   counts_inserted [] [] (suc i) e k h p = (p, h)
   counts_inserted [] (c ∷ ks) (suc i) e k h p = absurd h

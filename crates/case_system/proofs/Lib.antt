@@ -3,3 +3,4 @@ pub mod Counting
 mod Joining
 mod Marking
 pub mod Placing
+mod Turning

@@ -1,8 +1,9 @@
 -- Where an equation is placed.
-use Rattle.std.specs.Prelude.{◌≡◌, ◌≢◌, ◌⊎◌, ℕ, zero, suc, ◌+◌, ◌<◌, ◌≤◌, List, [], ◌∷◌, ◌++◌, length, take, drop, slice_index_or, slice_set, MatchResult, refl}
+use Rattle.std.specs.Prelude.{◌≡◌, ◌≢◌, ◌⊎◌, ℕ, zero, suc, ◌+◌, ◌-◌, ◌<◌, ◌≤◌, List, [], ◌∷◌, ◌++◌, length, take, drop, remove, slice_index_or, slice_set, MatchResult, refl}
 use mathlib.Core.Logic.{inl, inr}
 use Rattle.std.proofs.Common.{arith, sym, subst, ◌∙◌, ap, append_assoc, drop-cons}
-use Rattle.std.proofs.lemmas.Bool.{cases_order}
+use Rattle.std.proofs.lemmas.Bool.{cases_lt, cases_order}
+use Rattle.std.proofs.lemmas.List.Edits.{get_or-remove_below, get_or-remove_above, length-remove}
 use Rattle.std.specs.List.Sorted.{IsStrictlySortedBy, IsNonDecreasingBy, IsPartitionPoint, IsBinarySearchResult, IsSearchInRange}
 use Rattle.std.specs.Ordering.{ordering_index}
 use Rattle.std.proofs.Math.Numerals.{add-one}
@@ -157,6 +158,54 @@ found_place p es (Err i) a l h = each (cases_order i (length es))
     each (inl x) = past_end p es i x past
     each (inr (inl x)) = past_greater p es i (equation_at es i) x (any_default es i _ _ x) (parts.1 i no_equation (omega arith) x) past
     each (inr (inr x)) = absurd (omega (arith, l, x))
+
+-- where the polynomial goes among the equations other than that at place q
+module _ (p : List Term) (es : List Equation) (q : ℕ) (a : Ascend es) (in_list : q < length es) (i : ℕ) (within : i ≤ length es) (h : IsBinarySearchResult (λ (e : Equation). poly_cmp e.poly p) es (Err i)) where
+  left_long : length (remove es q) + 1 ≡ length es
+  left_long = length-remove es q in_list
+
+  parts : IsPartitionPoint (λ (e : Equation). poly_cmp e.poly p ≡ Less) (λ (e : Equation). poly_cmp e.poly p ≡ Greater) es i
+  parts = h (order_rises p es a)
+
+  less_at : (j k : ℕ) → equation_at (remove es q) j ≡ equation_at es k → k < i → poly_cmp (equation_at (remove es q) j).poly p ≡ Less
+  less_at j k e l = ap (λ (e : Equation). poly_cmp e.poly p) e ∙ parts.0 k no_equation (omega (arith, l, within)) l
+
+  goes_at : (j k : ℕ) → j ≤ length (remove es q) → ((m : ℕ) → m < j → poly_cmp (equation_at (remove es q) m).poly p ≡ Less) → (j < length (remove es q) → equation_at (remove es q) j ≡ equation_at es k) → i ≤ k → k ≤ j + 1 → GoesTo p (remove es q) j
+  goes_at j k l b e m n = each (cases_order j (length (remove es q)))
+    where
+      past : IsPast p (remove es q) j
+      past = past_all p (remove es q) j l b
+
+      each : (j ≡ length (remove es q)) ⊎ ((j < length (remove es q)) ⊎ (length (remove es q) < j)) → GoesTo p (remove es q) j
+      each (inl x) = past_end p (remove es q) j x past
+      each (inr (inl x)) =
+          past_greater p (remove es q) j (equation_at (remove es q) j) x (any_default (remove es q) j _ _ x)
+          (ap (λ (e : Equation). poly_cmp e.poly p) (e x) ∙ parts.1 k no_equation m (omega (arith, x, n, left_long))) past
+      each (inr (inr x)) = absurd (omega (arith, l, x))
+
+  pub goes_before : i ≤ q → GoesTo p (remove es q) i
+  goes_before l = each (cases_order i q)
+    where
+      below : (m : ℕ) → m < i → poly_cmp (equation_at (remove es q) m).poly p ≡ Less
+      below m k = less_at m m (get_or-remove_below es q no_equation m (omega (arith, k, l)) in_list) k
+
+      each : (i ≡ q) ⊎ ((i < q) ⊎ (q < i)) → GoesTo p (remove es q) i
+      each (inl x) = goes_at i (i + 1) (omega (arith, x, in_list, left_long)) below (λ k. get_or-remove_above es q no_equation i (omega (arith, x)) in_list) (omega arith) (omega arith)
+      each (inr (inl x)) = goes_at i i (omega (arith, l, in_list, left_long)) below (λ k. get_or-remove_below es q no_equation i x in_list) (omega arith) (omega arith)
+      each (inr (inr x)) = absurd (omega (arith, l, x))
+
+  pub goes_after : q < i → GoesTo p (remove es q) (i - 1)
+  goes_after l = goes_at (i - 1) i (omega (arith, within, l, left_long)) below (λ k. above_at (i - 1) (omega (arith, l)) ∙ ap (equation_at es) (let e : i - 1 + 1 ≡ i = omega (arith, l) in e)) (omega arith) (omega arith)
+    where
+      above_at : (m : ℕ) → q ≤ m → equation_at (remove es q) m ≡ equation_at es (m + 1)
+      above_at m k = get_or-remove_above es q no_equation m k in_list
+
+      below : (m : ℕ) → m < i - 1 → poly_cmp (equation_at (remove es q) m).poly p ≡ Less
+      below m k = each (cases_lt m q)
+        where
+          each : (m < q) ⊎ (q ≤ m) → poly_cmp (equation_at (remove es q) m).poly p ≡ Less
+          each (inl x) = less_at m m (get_or-remove_below es q no_equation m x in_list) (omega (arith, k))
+          each (inr x) = less_at m (m + 1) (above_at m x) (omega (arith, k))
 
 -- what is added, where the polynomial is not zero
 pub added_placed : (e : Equation) (es : List Equation) → e.poly ≢ [] → added e es ≡ placed e es

@@ -1,11 +1,12 @@
 //! Lists of equations in order.
-ghost use Rattle.std.specs.Prelude.{◌≡◌, ◌<◌, List, IfOk, MatchResult, length, slice_set, vec_len, vec_capacity};
+ghost use Rattle.std.specs.Prelude.{◌≡◌, ◌≢◌, ◌<◌, List, [], IfOk, IfSome, MatchResult, length, remove, slice_set, vec_len, vec_capacity};
 ghost use Rattle.sparse_poly.specs.declared.Term.{Term};
 ghost use Rattle.case_rules.specs.Cases.{equation_at};
 ghost use Rattle.case_rules.specs.Kept.{older, added, item_of};
 ghost use Rattle.case_system.specs.Clean.{IsCleanTo, AreClean, with_count, IsCountPlace};
 ghost use Rattle.case_system.specs.Places.{Ascend, StandsAt, GoesTo, HasPlace};
 
+use crate::exchanging::exchange;
 use case_rules::Equation;
 use derive_lines::{Item, is_same};
 use sparse_poly::Poly;
@@ -122,6 +123,43 @@ pub fn add(list: &mut KeptList, kept: Kept) -> Result<(), AllocError>
     list.clean.reserve(1)?;
     let _place = add_in_room(list, kept);
     Ok(())
+}
+
+// The place where a polynomial goes among the equations other than that at q, unless it is zero or stands among all of them.
+fn place_beside(equations: &[Equation], q: usize, poly: &Poly) -> Option<usize>
+    requires place { q < length equations.now }
+    requires ascending { Ascend equations.now }
+    ensures goes { IfSome result (GoesTo poly.now (remove equations.now q)) }
+    ensures nonzero { IfSome result (λ _. poly.now ≢ []) }
+{
+    if poly.is_zero() {
+        return None;
+    }
+    match equations.binary_search_by(|equation| equation.poly.order(poly)) {
+        Ok(_) => None,
+        Err(i) => Some(if i <= q { i } else { i - 1 }),
+    }
+}
+
+/// Adds an equation to those other than that at a place, which is dropped, and answers the place of a polynomial that is new. Zero is dropped,
+/// and of two equations with one polynomial the older item stays.
+pub fn replace_at(list: &mut KeptList, q: usize, kept: Kept) -> Option<u64>
+    requires place { q < length list.old.equations.items }
+    requires ascending { Ascend list.old.equations.items }
+    requires counts { length list.old.clean.items ≡ length list.old.equations.items }
+    ensures added { list.new.equations.items ≡ added kept.equation (remove list.old.equations.items q) }
+    ensures place { HasPlace kept.equation.poly (remove list.old.equations.items q) result }
+    ensures clean { (units : List (List Term)) → AreClean units list.old.equations.items list.old.clean.items → IsCleanTo units kept.equation.poly kept.clean → AreClean units list.new.equations.items list.new.clean.items }
+{
+    let Some(to) = place_beside(&list.equations, q, &kept.equation.poly) else {
+        let _replaced = list.equations.remove(q);
+        let _count = list.clean.remove(q);
+        return add_in_room(list, kept);
+    };
+    let Kept { equation, clean } = kept;
+    let _replaced = exchange(&mut list.equations, q, equation, to);
+    let _count = exchange(&mut list.clean, q, clean, to);
+    Some(to as u64)
 }
 
 /// The item of a polynomial among equations, and another item where it does not stand there.

@@ -4,6 +4,7 @@
 mod clearing;
 mod conditions;
 mod copies;
+mod exchanging;
 mod kept;
 mod lines;
 mod system;

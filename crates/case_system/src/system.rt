@@ -9,7 +9,7 @@ ghost use Rattle.case_system.specs.Places.{Ascend};
 use crate::clearing::{clear_equation, clear_equations, strip_equations};
 use crate::conditions::Conditions;
 use crate::copies::copied_list;
-use crate::kept::{Kept, KeptList, add, add_in_room};
+use crate::kept::{Kept, KeptList, add, replace_at};
 use crate::lines::CaseLines;
 use case_rules::Equation;
 use sparse_poly::Poly;
@@ -124,9 +124,7 @@ impl System {
         let alloc = lines.allocator();
         let kept = Kept { equation, clean: 0 };
         let rest = clear_equation(alloc, &self.conditions, kept, lines)?;
-        let _replaced = self.list.equations.remove(q as usize);
-        let _count = self.list.clean.remove(q as usize);
-        Ok(add_in_room(&mut self.list, rest))
+        Ok(replace_at(&mut self.list, q as usize, rest))
     }
 
     /// The same equations with one more known condition: all are stripped, in their order, and then all are cleared, with the lines for it. It
