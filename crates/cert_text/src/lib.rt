@@ -3,7 +3,9 @@
 
 mod parts;
 mod sentence;
+mod version;
 mod writer;
 
 pub use sentence::Sentence;
+pub use version::Version;
 pub use writer::write_certificate;
