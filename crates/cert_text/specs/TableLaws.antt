@@ -45,6 +45,7 @@ ways = record { equal = same; own = own }
     same Back Back e = refl
     same Fwd Back e = absurd (true≢false (sym e))
     same Back Fwd e = absurd (true≢false (sym e))
+
     own : (v : Way) → is_same_way v v ≡ true
     own Fwd = refl
     own Back = refl
@@ -62,6 +63,7 @@ items = record { equal = same; own = own }
     same (of_decision i) (of_line j) e = absurd (true≢false (sym e))
     same (of_line i) (Root j) e = absurd (true≢false (sym e))
     same (of_line i) (of_decision j) e = absurd (true≢false (sym e))
+
     own : (a : Item) → is_same_item a a ≡ true
     own (Root i) = eq-eqb i i refl
     own (of_decision i) = eq-eqb i i refl
@@ -75,15 +77,16 @@ references = record { equal = same; own = own }
     same (Some a) (Some b) e = ap Some (items.equal a b e)
     same None (Some b) e = absurd (true≢false (sym e))
     same (Some a) None e = absurd (true≢false (sym e))
+
     own : (a : Option Item) → option_eq is_same_item a a ≡ true
     own None = refl
     own (Some a) = items.own a
 
 polys : TellsEqual (eq_by_cmp poly_cmp)
 polys = record {
-    equal = λ p q e. poly_cmp-IsAntisymmetric p q ((Equal-is (poly_cmp p q)).0 e);
-    own = (eq_by_cmp_equiv poly_cmp-IsTotalOrder).refl
-  }
+  equal = λ p q e. poly_cmp-IsAntisymmetric p q ((Equal-is (poly_cmp p q)).0 e);
+  own = (eq_by_cmp_equiv poly_cmp-IsTotalOrder).refl;
+}
 
 abbrev made_line : Way → Option Item → Option Item → List Term → List Term → List Term → List Term → Line
 made_line w f b l a m p = record { way = w; from = f; by = b; l = l; a = a; m = m; made = p }
@@ -107,6 +110,7 @@ lines = record { equal = same; own = own }
         ∙ ap (λ p. made_line k.way k.from k.by k.l p l.m l.made) (polys.equal l.a k.a a.1)
         ∙ ap (λ p. made_line k.way k.from k.by k.l k.a p l.made) (polys.equal l.m k.m m.1)
         ∙ ap (λ p. made_line k.way k.from k.by k.l k.a k.m p) (polys.equal l.made k.made made.1)
+
     own : (l : Line) → is_same l l ≡ true
     own l =
         and_true _ _ (and_true _ _ (and_true _ _ (and_true _ _ (and_true _ _ (and_true _ _ (ways.own l.way) (references.own l.from)) (references.own l.by)) (polys.own l.l)) (polys.own l.a)) (polys.own l.m)) (polys.own l.made)
