@@ -1,3 +1,6 @@
+pub mod Tables
+pub mod Used
+pub mod Fresh
 pub mod RightLines
 pub mod Runs
 pub mod Steps

@@ -106,7 +106,7 @@ fn finish(kept: Kept, rest: &[u8], count: u64) -> Result<Certificate, CertFault>
     requires { count < 18_446_744_073_709_551_615 }
     ensures { (text : List ℕ) → IsReadTo text rest.now count (seen kept) → length text < max_number → Lacks 10 rest.now → MatchResult result (IsText text) (IsCertFault text) }
 {
-    let Kept::Whole(certificate) = kept else {
+    let Kept::Whole { certificate, .. } = kept else {
         return Err(CertFault::Truncated);
     };
     if !rest.is_empty() {
