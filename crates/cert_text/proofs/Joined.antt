@@ -12,8 +12,8 @@ use Rattle.leaf_cert.specs.declared.certificate.Certificate.{Certificate}
 use Rattle.cert_text.specs.declared.sentence.Sentence.{Sentence}
 use Rattle.cert_text.specs.declared.sentence.Sentence.TheVariants as says
 use Rattle.cert_text.specs.Fields.{further, ended, reference_text, way_text, step_word, line_fields, stop_fields, leaf_fields, end_fields, count_fields}
-use Rattle.cert_text.specs.Sentences.{fields, entry_sentences, head}
-use Rattle.cert_text.specs.Sentences.{spelled, certificate_text}
+use Rattle.cert_text.specs.Sentences.{fields}
+use Rattle.cert_text.specs.Sentences.{spelled}
 
 pub spelled-append : (ss ts : List Sentence) → spelled (ss ++ ts) ≡ spelled ss ++ spelled ts
 spelled-append [] ts = refl
@@ -37,27 +37,3 @@ parts old a b c d = simp append_assoc
 -- the texts of three lists of lines
 three : (ss ts us : List Sentence) → spelled (ss ++ (ts ++ us)) ≡ spelled ss ++ (spelled ts ++ spelled us)
 three ss ts us = spelled-append ss (ts ++ us) ∙ ap (λ l. spelled ss ++ l) (spelled-append ts us)
-
-pub head_joined : (c : Certificate) (old : List ℕ) → old ++ codes "braidcert 1\n" ++ ended (count_fields (codes "unknowns") c.unknowns) ++ ended (count_fields (codes "equations") c.equations) ++ ended (count_fields (codes "budget") c.budget) ≡ old ++ spelled (head c)
-head_joined c old =
-    let u = ended (count_fields (codes "unknowns") c.unknowns) in
-    let e = ended (count_fields (codes "equations") c.equations) in
-    let b = ended (count_fields (codes "budget") c.budget) in
-    parts old (codes "braidcert 1\n") u e b ∙ ap (λ l. old ++ (codes "braidcert 1\n" ++ (u ++ (e ++ l)))) (sym (append-nil b))
-
-pub post_joined : (ds : List Decision) (ls : List Line) (end : Item) (old : List ℕ) → old ++ codes "post\n" ++ spelled (map says.Decided ds) ++ spelled (map says.Derived ls) ++ ended (end_fields end) ≡ old ++ spelled (says.Post ∷ (map says.Decided ds ++ (map says.Derived ls ++ says.End end ∷ [])))
-post_joined ds ls end old =
-    parts old (codes "post\n") (spelled (map says.Decided ds)) (spelled (map says.Derived ls)) (ended (end_fields end))
-    ∙ ap (λ l. old ++ (codes "post\n" ++ (spelled (map says.Decided ds) ++ (spelled (map says.Derived ls) ++ l)))) (sym (append-nil (ended (end_fields end))))
-    ∙ ap (λ l. old ++ (codes "post\n" ++ l)) (sym (three (map says.Decided ds) (map says.Derived ls) (says.End end ∷ [])))
-
-pub leaf_joined : (n : ℕ) (ds : List Decision) (ls : List Line) (ps : List (List Term)) (end : LeafEnd) (old : List ℕ) → old ++ ended (leaf_fields n end) ++ spelled (map says.Decided ds) ++ spelled (map says.Derived ls) ++ spelled (map says.Equation ps) ≡ old ++ spelled (says.Leaf n end ∷ (map says.Decided ds ++ (map says.Derived ls ++ map says.Equation ps)))
-leaf_joined n ds ls ps end old =
-    parts old (ended (leaf_fields n end)) (spelled (map says.Decided ds)) (spelled (map says.Derived ls)) (spelled (map says.Equation ps))
-    ∙ ap (λ l. old ++ (ended (leaf_fields n end) ++ l)) (sym (three (map says.Decided ds) (map says.Derived ls) (map says.Equation ps)))
-
-pub text_joined : (c : Certificate) → spelled (head c) ++ spelled (flat_map entry_sentences c.entries) ++ ended (count_fields (codes "done") (length c.entries)) ≡ certificate_text c
-text_joined c =
-    append_assoc (spelled (head c)) (spelled (flat_map entry_sentences c.entries)) (ended (count_fields (codes "done") (length c.entries)))
-    ∙ ap (λ l. spelled (head c) ++ (spelled (flat_map entry_sentences c.entries) ++ l)) (sym (append-nil (ended (count_fields (codes "done") (length c.entries)))))
-    ∙ sym (three (head c) (flat_map entry_sentences c.entries) (says.Done (length c.entries) ∷ []))
