@@ -1,7 +1,6 @@
 //! What a line says, read by its kind.
 ghost use Rattle.std.specs.Prelude.{ℕ, codes, IfOk, MatchResult};
-ghost use Rattle.cert_text.specs.Fields.{way_text, step_word, stop_fields, cause_fields, leaf_end_fields};
-ghost use Rattle.cert_text.specs.Sentences.{digit};
+ghost use Rattle.cert_text.specs.Fields.{version_text, way_text, step_word, stop_fields, cause_fields, leaf_end_fields};
 ghost use Rattle.cert_lines.specs.Forms.{OneOf, stop_form, cause_form, end_form};
 ghost use Rattle.cert_text.specs.Numbers.{HasStopInRange, HasCauseInRange, HasEndInRange};
 ghost use Rattle.leaf_cert.specs.Variables.{HasStopVariablesBelow, HasCauseVariablesBelow, HasEndVariablesBelow};
@@ -27,7 +26,7 @@ fn title(line: &[u8]) -> Result<Sentence, LineFault>
 }
 
 fn version(fields: &mut FieldReader<'_>) -> Version
-    ensures { (u : ℕ) → IsFieldRead u (OneOf (codes "1") (codes "2")) (left fields.old.part) (left fields.new.part) fields.old.notes fields.new.notes (digit result) (Unit {0}) }
+    ensures { (u : ℕ) → IsFieldRead u (OneOf (codes "1") (codes "2")) (left fields.old.part) (left fields.new.part) fields.old.notes fields.new.notes (version_text result) (Unit {0}) }
 {
     if fields.one_of(b"1", b"2") {
         Version::One

@@ -6,7 +6,7 @@ use Rattle.derive_lines.specs.declared.parts.Line.{Line}
 use Rattle.derive_lines.specs.declared.parts.Item.{Item}
 use Rattle.derive_lines.specs.declared.parts.Item.TheVariants.{Root, Decision as of_decision, Line as of_line}
 use Rattle.derive_lines.specs.declared.parts.Way.TheVariants.{Fwd}
-use Rattle.cert_text.specs.Table.{is_same, stands_in}
+use Rattle.cert_text.specs.Tables.{is_same, stands_in}
 use Rattle.cert_read.proofs.Tables.{equal_number, own_number, same_line}
 
 -- ---- numbers
@@ -76,14 +76,14 @@ number_of l = item_number l.from
 
 other_lines : (t : List Line) (k : ℕ) → is_among k (map number_of t) ≡ false → stands_in t (numbered k) ≡ false
 other_lines [] k h = refl
-other_lines (l ∷ t) k h = by (number_of l == k) refl (is_same l (numbered k)) refl h (other_lines t k)
+other_lines (l ∷ t) k h = by (number_of l == k) refl (is_same (numbered k) l) refl h (other_lines t k)
   where
-    by : (c : Bool) → (number_of l == k) ≡ c → (b : Bool) → is_same l (numbered k) ≡ b → c || is_among k (map number_of t) ≡ false → (is_among k (map number_of t) ≡ false → stands_in t (numbered k) ≡ false) → b || stands_in t (numbered k) ≡ false
+    by : (c : Bool) → (number_of l == k) ≡ c → (b : Bool) → is_same (numbered k) l ≡ b → c || is_among k (map number_of t) ≡ false → (is_among k (map number_of t) ≡ false → stands_in t (numbered k) ≡ false) → b || stands_in t (numbered k) ≡ false
     by true f b e h r = absurd (cc)
     by false f true e h r = absurd (let w : true ≡ false = sym (own_number k) ∙ ap (λ x. x == k) (sym (here e)) ∙ f in cc)
       where
-        here : is_same l (numbered k) ≡ true → number_of l ≡ k
-        here e = ap (λ x. item_number x.from) (same_line l (numbered k) e)
+        here : is_same (numbered k) l ≡ true → number_of l ≡ k
+        here e = ap (λ x. item_number x.from) (sym (same_line (numbered k) l e))
     by false f false e h r = r h
 
 -- a line that a table lacks

@@ -16,13 +16,13 @@ use Rattle.leaf_cert.specs.declared.certificate.RawEntry.TheVariants.{Split, Pos
 use Rattle.cert_lines.specs.declared.kind.Kind.{Kind}
 use Rattle.cert_lines.specs.declared.kind.Kind.TheVariants as kind
 use Rattle.cert_read.specs.declared.machine.Head.{Head}
-use Rattle.cert_text.specs.declared.sentence.Version.{Version}
-use Rattle.cert_text.specs.declared.sentence.Version.TheVariants.{One, Two}
+use Rattle.cert_text.specs.declared.version.Version.{Version}
+use Rattle.cert_text.specs.declared.version.Version.TheVariants.{One, Two}
 use Rattle.cert_text.specs.declared.sentence.Sentence.{Sentence}
 use Rattle.cert_text.specs.declared.sentence.Sentence.TheVariants as says
 use Rattle.cert_text.specs.Numbers.{max_number}
 use Rattle.cert_lines.specs.Fitting.{FitsSentence}
-use Rattle.cert_text.specs.Table.{stands_in}
+use Rattle.cert_text.specs.Tables.{stands_in}
 use Rattle.cert_read.specs.Machine.{Wording, InFull, ByPlace, Open, Nothing, InPost, InLeaf, State, AtStart, AtUnknowns, AtEquations, AtBudget, AtLines, InTable, Listing, Whole, Wrong, Taken, taken, is_used_up, version_of, is_in_full, certificate, begin, derive, in_post, in_leaf, at_start, at_unknowns, at_equations, headed, at_budget, filled, at_lines, in_table, next, kind_of, may_begin, may_post, may_leaf, is_title, is_unknowns, is_equations, is_budget, is_lines, is_derived, may, unknowns}
 use Rattle.cert_read.proofs.Tables.{both, own_number}
 use Rattle.cert_read.proofs.Used.{IsSound}

@@ -10,11 +10,11 @@ use Rattle.leaf_cert.specs.declared.ends.LeafEnd.{LeafEnd}
 use Rattle.leaf_cert.specs.declared.certificate.RawEntry.{RawEntry}
 use Rattle.leaf_cert.specs.declared.certificate.RawEntry.TheVariants.{Split, Post, Close, Publish}
 use Rattle.leaf_cert.specs.declared.certificate.Certificate.{Certificate}
-use Rattle.cert_text.specs.declared.sentence.Version.{Version}
-use Rattle.cert_text.specs.declared.sentence.Version.TheVariants.{One, Two}
+use Rattle.cert_text.specs.declared.version.Version.{Version}
+use Rattle.cert_text.specs.declared.version.Version.TheVariants.{One, Two}
 use Rattle.cert_text.specs.declared.sentence.Sentence.{Sentence}
 use Rattle.cert_text.specs.declared.sentence.Sentence.TheVariants as says
-use Rattle.cert_text.specs.Table.{stands_in, with_new, place, entry_lines, table}
+use Rattle.cert_text.specs.Tables.{stands_in, with_new, place, entry_lines, table}
 use Rattle.cert_text.specs.Sentences.{entry_sentences, sentences}
 use Rattle.cert_read.specs.declared.machine.Head.{Head}
 use Rattle.cert_read.specs.Machine.{Wording, InFull, ByPlace, Nothing, InPost, InLeaf, State, AtStart, InTable, Listing, Whole, Wrong, Taken, taken_at, taken, is_used_up, version_of, certificate, begin, derive, in_post, in_leaf, filled, next, run, said}

@@ -11,12 +11,12 @@ use Rattle.leaf_cert.specs.declared.ends.LeafEnd.{LeafEnd}
 use Rattle.leaf_cert.specs.declared.certificate.RawEntry.{RawEntry}
 use Rattle.leaf_cert.specs.declared.certificate.RawEntry.TheVariants.{Split, Post, Close, Publish}
 use Rattle.leaf_cert.specs.declared.certificate.Certificate.{Certificate}
-use Rattle.cert_text.specs.declared.sentence.Version.{Version}
-use Rattle.cert_text.specs.declared.sentence.Version.TheVariants.{One, Two}
+use Rattle.cert_text.specs.declared.version.Version.{Version}
+use Rattle.cert_text.specs.declared.version.Version.TheVariants.{One, Two}
 use Rattle.cert_text.specs.declared.sentence.Sentence.{Sentence}
 use Rattle.cert_text.specs.declared.sentence.Sentence.TheVariants as says
-use Rattle.cert_text.specs.Table.{stands_in, entry_lines, table}
-use Rattle.cert_text.specs.Sentences.{said_in, table_sentences, entry_sentences, head, sentences}
+use Rattle.cert_text.specs.Tables.{stands_in, entry_lines, table}
+use Rattle.cert_text.specs.Sentences.{entry_sentences, head, sentences}
 use Rattle.cert_read.specs.declared.machine.Head.{Head}
 use Rattle.cert_read.specs.Machine.{Wording, InFull, ByPlace, Open, Nothing, InPost, InLeaf, State, AtStart, AtUnknowns, AtEquations, AtBudget, AtLines, InTable, Listing, Whole, Wrong, Taken, taken, is_used_up, version_of, certificate, begin, derive, in_post, in_leaf, listing, at_start, at_unknowns, at_equations, headed, at_budget, filled, at_lines, in_table, next, run, said, open_sentences, table_of, printed}
 use Rattle.cert_read.proofs.Tables.{equal_number, both}
@@ -48,7 +48,7 @@ whole_printed : (h : Head) (w : Wording) (used : ℕ) (es : List RawEntry) → I
 whole_printed h InFull used es u e = refl
 whole_printed h (ByPlace t) used es u e =
     let same : table (certificate h es) ≡ t = sym (used_table t used (lines_of es Nothing) u e ∙ ap different (append-nil (flat_map entry_lines es))) in
-    ap (λ x. head Two (certificate h es) ++ (table_sentences Two x ++ (flat_map (entry_sentences (said_in Two x)) es ++ says.Done (length es) ∷ []))) same
+    ap (λ x. head Two (certificate h es) ++ (table_of (ByPlace x) ++ (flat_map (entry_sentences (said (ByPlace x))) es ++ says.Done (length es) ∷ []))) same
 
 begin_printed : (h : Head) (w : Wording) (used : ℕ) (es : List RawEntry) (s : Sentence) → IsUsedBy w used (lines_of es Nothing) → begin h w used es s ≢ Wrong → printed (begin h w used es s) ≡ behind h w es (s ∷ [])
 begin_printed h w used es (says.Split n by) u ok = closed h w es (Split n by)

@@ -10,11 +10,11 @@ use Rattle.derive_lines.specs.declared.parts.Line.{Line}
 use Rattle.leaf_cert.specs.declared.ends.LeafEnd.{LeafEnd}
 use Rattle.leaf_cert.specs.declared.certificate.RawEntry.{RawEntry}
 use Rattle.leaf_cert.specs.declared.certificate.RawEntry.TheVariants.{Split, Post, Close, Publish}
-use Rattle.cert_text.specs.declared.sentence.Version.{Version}
-use Rattle.cert_text.specs.declared.sentence.Version.TheVariants.{One, Two}
+use Rattle.cert_text.specs.declared.version.Version.{Version}
+use Rattle.cert_text.specs.declared.version.Version.TheVariants.{One, Two}
 use Rattle.cert_text.specs.declared.sentence.Sentence.{Sentence}
 use Rattle.cert_text.specs.declared.sentence.Sentence.TheVariants as says
-use Rattle.cert_text.specs.Table.{stands_in, with_new, place, entry_lines}
+use Rattle.cert_text.specs.Tables.{stands_in, with_new, place, entry_lines}
 use Rattle.cert_read.specs.declared.machine.Head.{Head}
 use Rattle.cert_read.specs.Machine.{Wording, InFull, ByPlace, Open, Nothing, InPost, InLeaf, State, AtStart, AtUnknowns, AtEquations, AtBudget, AtLines, InTable, Listing, Whole, Wrong, Taken, taken_at, taken, is_used_up, version_of, certificate, begin, derive, in_post, in_leaf, listing, at_start, at_unknowns, at_equations, headed, at_budget, filled, at_lines, in_table, next, run, said}
 use Rattle.cert_read.proofs.Tables.{equal_number, own_number, other_number, at_place, old_place, later_place, new_place, HasEachOnce, none_once, pushed_once, new_append, grows, new_once}

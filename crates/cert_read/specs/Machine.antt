@@ -7,14 +7,14 @@ use Rattle.leaf_cert.specs.declared.ends.LeafEnd.{LeafEnd}
 use Rattle.leaf_cert.specs.declared.certificate.RawEntry.{RawEntry}
 use Rattle.leaf_cert.specs.declared.certificate.RawEntry.TheVariants.{Split, Post, Close, Publish}
 use Rattle.leaf_cert.specs.declared.certificate.Certificate.{Certificate}
-use Rattle.cert_text.specs.declared.sentence.Version.{Version}
-use Rattle.cert_text.specs.declared.sentence.Version.TheVariants.{One, Two}
+use Rattle.cert_text.specs.declared.version.Version.{Version}
+use Rattle.cert_text.specs.declared.version.Version.TheVariants.{One, Two}
 use Rattle.cert_text.specs.declared.sentence.Sentence.{Sentence}
 use Rattle.cert_text.specs.declared.sentence.Sentence.TheVariants as says
 use Rattle.cert_lines.specs.declared.kind.Kind.{Kind}
 use Rattle.cert_lines.specs.declared.kind.Kind.TheVariants as kind
 use Rattle.cert_read.specs.declared.machine.Head.{Head}
-use Rattle.cert_text.specs.Table.{stands_in, place}
+use Rattle.cert_text.specs.Tables.{stands_in, place}
 use Rattle.cert_text.specs.Sentences.{entry_sentences, head, sentences}
 
 -- how the lines of derivations are said: themselves, or by their places in this table

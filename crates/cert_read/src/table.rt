@@ -1,7 +1,8 @@
 //! The table of the lines of derivations.
 ghost use Rattle.std.specs.Prelude.{◌≡◌, ◌<◌, ◌^◌, ◌++◌, ◌∷◌, [], not, length, slice_get, option_copied, if◌then◌else◌, IfOk, IfSome};
-ghost use Rattle.cert_text.specs.Table.{stands_in};
+ghost use Rattle.cert_text.specs.Tables.{stands_in};
 
+use cert_text::LineKey;
 use derive_lines::Line;
 use indexmap::IndexSet;
 use std::alloc::{AllocError, Global};
@@ -10,7 +11,7 @@ use std::marker::Model;
 /// Different lines, in the order in which they were added.
 #[derive(Drop)]
 pub struct LineTable {
-    lines: IndexSet<Line>,
+    lines: IndexSet<LineKey>,
 }
 
 impl Model for LineTable {
@@ -44,7 +45,7 @@ impl LineTable {
         ensures new { IfOk result (λ b. b ≡ not (stands_in self.old line)) }
         ensures lines { IfOk result (λ b. self.new ≡ (if stands_in self.old line then self.old else self.old ++ line ∷ [])) }
     {
-        let (_place, new) = self.lines.insert_full(line)?;
+        let (_place, new) = self.lines.insert_full(LineKey::of(line))?;
         Ok(new)
     }
 
@@ -56,6 +57,22 @@ impl LineTable {
         if place >= self.len() {
             return None;
         }
-        self.lines.get_index(place as usize)
+        let key = self.lines.get_index(place as usize)?;
+        Some(key.line())
     }
+}
+
+/// A line once more.
+pub(crate) fn copied_line(line: &Line) -> Result<Line, AllocError>
+    ensures { IfOk result (λ l. l ≡ line.now) }
+{
+    Ok(Line {
+        way: line.way,
+        from: line.from,
+        by: line.by,
+        l: line.l.copy()?,
+        a: line.a.copy()?,
+        m: line.m.copy()?,
+        made: line.made.copy()?,
+    })
 }
