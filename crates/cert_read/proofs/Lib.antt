@@ -11,6 +11,7 @@ pub mod Plain
 pub mod Cut
 pub mod Unknowns
 pub mod Living
+pub mod Uses
 pub mod LinesRead
 pub mod Finish
 pub mod LineFaults

@@ -256,7 +256,7 @@ line_fits u = (record { from = tt; by = tt; l = zero_poly; a = zero_poly; m = ze
 numbered_fits : (k u : ℕ) → k ≤ max_number → FitsSentence u (says.Derived (numbered k))
 numbered_fits k u h = (record { from = h; by = tt; l = zero_poly; a = zero_poly; m = zero_poly; made = zero_poly }, record { l = tt; a = tt; m = tt; made = tt })
 
-begin_done : (h : Head) (w : Wording) (used : ℕ) (es : List RawEntry) → is_used_up w used ≡ true → begin h w used es (says.Done (length es)) ≡ Whole (version_of w) (certificate h es)
+pub begin_done : (h : Head) (w : Wording) (used : ℕ) (es : List RawEntry) → is_used_up w used ≡ true → begin h w used es (says.Done (length es)) ≡ Whole (version_of w) (certificate h es)
 begin_done h w used es e =
     ap (λ b. if b && is_used_up w used then Whole (version_of w) (certificate h es) else Wrong) (own_number (length es)) ∙ ap (λ b. if b then Whole (version_of w) (certificate h es) else Wrong) e
 
@@ -343,15 +343,14 @@ lines_some h kind.Lines e = some (AtLines h) (says.Lines 0) (filled_live h 0 [])
 lines_some h k e = absurd (cc)
 
 -- a line that a table has not yet
-pub fresh_line : (h : Head) (size : ℕ) (t : List Line) → length t ≤ max_number → SomeLine (InTable h size t) kind.Derived
-fresh_line h size t few =
-    let f = fresh t in
-    let le = f.1 in
-    let e : in_table h size t (says.Derived (numbered f.0)) ≡ filled h size (t ++ numbered f.0 ∷ []) = ap (λ b. if b then Wrong else filled h size (t ++ numbered f.0 ∷ [])) f.2 in
-    some (InTable h size t) (says.Derived (numbered f.0)) (λ w. filled_live h size (t ++ numbered f.0 ∷ []) (sym e ∙ w)) (λ u. numbered_fits f.0 u (omega (arith, le, few))) (ap unknowns e ∙ filled_keeps h size (t ++ numbered f.0 ∷ []))
+pub fresh_line : (t : List Line) → length t ≤ max_number → (l : Line) × (stands_in t l ≡ false) × ((u : ℕ) → FitsSentence u (says.Derived l))
+fresh_line t few = let f = fresh t in let le = f.1 in (numbered f.0, f.2, λ u. numbered_fits f.0 u (omega (arith, le, few)))
 
 table_some : (h : Head) (size : ℕ) (t : List Line) (k : Kind) → is_derived k ≡ true → length t ≤ max_number → SomeLine (InTable h size t) k
-table_some h size t kind.Derived e few = fresh_line h size t few
+table_some h size t kind.Derived e few =
+    let f = fresh_line t few in
+    let e : in_table h size t (says.Derived f.0) ≡ filled h size (t ++ f.0 ∷ []) = ap (λ b. if b then Wrong else filled h size (t ++ f.0 ∷ [])) f.1 in
+    some (InTable h size t) (says.Derived f.0) (λ w. filled_live h size (t ++ f.0 ∷ []) (sym e ∙ w)) f.2 (ap unknowns e ∙ filled_keeps h size (t ++ f.0 ∷ []))
 table_some h size t k e few = absurd (cc)
 
 pub some_next : (st : State) (k : Kind) → may st k ≡ true → is_use k ≡ false → weight st ≤ max_number → SomeLine st k

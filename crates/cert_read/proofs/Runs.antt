@@ -194,7 +194,7 @@ leaf_next : (h : Head) (w : Wording) (used : ℕ) (es : List RawEntry) (st : Sta
 leaf_next h w used es st (between _ _ _ _) n end = refl
 leaf_next h w used es st (behind_leaf _ _ _ _ _ _ _ _ _) n end = refl
 
-done_next : (h : Head) (w : Wording) (used : ℕ) (es : List RawEntry) (st : State) → Ready h w used es st → (n : ℕ) → next st (says.Done n) ≡ begin h w used es (says.Done n)
+pub done_next : (h : Head) (w : Wording) (used : ℕ) (es : List RawEntry) (st : State) → Ready h w used es st → (n : ℕ) → next st (says.Done n) ≡ begin h w used es (says.Done n)
 done_next h w used es st (between _ _ _ _) n = refl
 done_next h w used es st (behind_leaf _ _ _ _ _ _ _ _ _) n = refl
 
@@ -207,7 +207,7 @@ pub record Reaches (h : Head) (w : Wording) (es : List RawEntry) (st : State) (s
   pub runs : run st (ss ++ rest) ≡ run new rest
 
 module _ (h : Head) (w : Wording) where
-  entry_run : (used : ℕ) (es : List RawEntry) (st : State) → Ready h w used es st → (e : RawEntry) (rest : List Sentence) (lines later : List Line) → Makes w used lines (entry_lines e ++ later)
+  pub entry_run : (used : ℕ) (es : List RawEntry) (st : State) → Ready h w used es st → (e : RawEntry) (rest : List Sentence) (lines later : List Line) → Makes w used lines (entry_lines e ++ later)
       → Reaches h w (es ++ e ∷ []) st (entry_sentences (said w) e) rest (lines ++ entry_lines e) later
   entry_run used es st r (Split n by) rest lines later m = record {
     used = used;
@@ -265,7 +265,7 @@ module _ (h : Head) (w : Wording) where
       }
 
 -- behind all lines the whole table is used
-all_used : (w : Wording) (used : ℕ) (ls : List Line) → Makes w used ls [] → is_used_up w used ≡ true
+pub all_used : (w : Wording) (used : ℕ) (ls : List Line) → Makes w used ls [] → is_used_up w used ≡ true
 all_used InFull used ls m = refl
 all_used (ByPlace t) used ls m = ap (λ n. n == length t) (m.counted ∙ ap (λ (x : List Line). length (different x)) (sym (append-nil ls)) ∙ ap (λ (x : List Line). length x) (sym m.made)) ∙ own_number (length t)
 
@@ -280,7 +280,7 @@ listing_run h w es m =
 
 -- ---- the table
 
-absent : (t ls : List Line) (l : Line) → HasEachOnce (t ++ l ∷ ls) → stands_in t l ≡ false
+pub absent : (t ls : List Line) (l : Line) → HasEachOnce (t ++ l ∷ ls) → stands_in t l ≡ false
 absent t ls l h = by (stands_in t l) refl
   where
     nth : (x more : List Line) → slice_get (x ++ l ∷ more) (length x) ≡ Some l

@@ -54,7 +54,8 @@ impl LineTable {
         ensures line { option_copied result ≡ slice_get self.now place }
         ensures small { IfSome result (λ _. place < 2 ^ 63) }
     {
-        if place >= self.len() {
+        let count = self.lines.len();
+        if place >= count as u64 {
             return None;
         }
         let key = self.lines.get_index(place as usize)?;

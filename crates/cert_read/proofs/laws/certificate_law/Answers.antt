@@ -1,9 +1,10 @@
-use Rattle.cert_read.proofs.Unknowns.{out_alike}
-use Rattle.cert_read.proofs.Fit.{fit_certificate}
-use Rattle.cert_read.proofs.Cut.{goes_on}
-use Rattle.cert_read.proofs.Mays.{some_next}
-use Rattle.cert_read.proofs.Steps.{whole_is}
+use Rattle.cert_read.proofs.OneAnswer.{one_certificate, no_fault, one_fault}
+use Rattle.cert_read.proofs.WrongLines.{wrong_line}
 use Rattle.cert_read.proofs.laws.certificate_law.Goals as goal
 
 pub returns : goal.returns
-returns c = ?
+returns c = record {
+  one = λ text a b. one_certificate text a b;
+  ok = λ text a fault. no_fault text a fault;
+  one_fault = λ text first second. one_fault text first second;
+}
