@@ -1,12 +1,18 @@
 -- The states that the reader keeps.
-use Rattle.std.specs.Prelude.{◌≡◌, ◌≢◌, ℕ, true, false, ◌==◌, List, [], ◌∷◌, length, refl}
+use Rattle.std.specs.Prelude.{◌≡◌, ◌≢◌, ℕ, true, false, ◌==◌, Option, None, Some, List, [], ◌∷◌, length, refl}
 use Rattle.std.proofs.Common.{arith}
 use Rattle.std.proofs.lemmas.Bool.Decides.{nat_tests}
+use Rattle.sparse_poly.specs.declared.Term.{Term}
+use Rattle.derive_lines.specs.declared.parts.Decision.{Decision}
+use Rattle.derive_lines.specs.declared.parts.Line.{Line}
+use Rattle.leaf_cert.specs.declared.ends.LeafEnd.{LeafEnd}
+use Rattle.leaf_cert.specs.declared.certificate.RawEntry.{RawEntry}
 use Rattle.leaf_cert.specs.declared.certificate.Certificate.{Certificate}
+use Rattle.cert_read.specs.declared.machine.Head.{Head}
 use Rattle.cert_text.specs.declared.version.Version.{Version}
 use Rattle.cert_read.specs.declared.machine.Kept.{Kept}
 use Rattle.cert_read.specs.declared.machine.Kept.TheVariants as kept
-use Rattle.cert_read.specs.Machine.{AtStart, AtUnknowns, AtEquations, AtBudget, AtLines, InTable, Listing, Whole, Wrong}
+use Rattle.cert_read.specs.Machine.{Wording, InLeaf, Taken, derive, AtStart, AtUnknowns, AtEquations, AtBudget, AtLines, InTable, Listing, Whole, Wrong}
 use Rattle.cert_read.specs.Seen.{seen, seen_wording, seen_used, seen_open}
 use Rattle.cert_read.proofs.Finish.{IsWhole}
 
@@ -39,3 +45,9 @@ no_bytes (x ∷ xs) h = absurd (grind (arith, nat_tests))
 pub some_bytes : (xs : List ℕ) → (length xs == 0) ≡ false → xs ≢ []
 some_bytes [] h e = cc
 some_bytes (x ∷ xs) h e = cc
+
+-- behind an equation no line of a derivation comes
+pub behind_equation : (h : Head) (w : Wording) (es : List RawEntry) (n : ℕ) (end : LeafEnd) (ds : List Decision) (ls : List Line) (ps : List (List Term)) (o : Option Taken) → (length ps == 0) ≡ false → derive h w es (InLeaf n end ds ls ps) o ≡ Wrong
+behind_equation h w es n end ds ls [] o e = absurd (cc)
+behind_equation h w es n end ds ls (p ∷ ps) None e = refl
+behind_equation h w es n end ds ls (p ∷ ps) (Some x) e = refl
