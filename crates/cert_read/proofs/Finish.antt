@@ -33,7 +33,7 @@ use Rattle.cert_read.proofs.Steps.{whole_is}
 use Rattle.cert_read.proofs.Fit.{AllFit, fit_lines, fit_certificate}
 use Rattle.cert_read.proofs.Cut.{said_text, said_words, line_of, of_says, of_lacks}
 use Rattle.cert_read.proofs.Living.{few_different}
-use Rattle.cert_read.proofs.Uses.{Last, last_said}
+use Rattle.cert_read.proofs.Uses.{last_said}
 use Rattle.cert_read.proofs.LinesRead.{small, are_right, said_lines, said_count, counted_within}
 
 -- ---- `done` lines

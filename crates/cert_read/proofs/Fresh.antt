@@ -1,10 +1,9 @@
 -- Each table lacks a line whose number is at most its length.
 use Rattle.std.specs.Prelude.{◌≡◌, ℕ, zero, suc, ◌+◌, ◌<◌, ◌≤◌, Bool, true, false, ◌||◌, ◌==◌, if◌then◌else◌, Option, None, Some, List, [], ◌∷◌, length, map, refl}
 use Rattle.std.proofs.Common.{sym, ◌∙◌, ap, arith}
-use Rattle.std.proofs.lemmas.Bool.Decides.{nat_tests}
 use Rattle.derive_lines.specs.declared.parts.Line.{Line}
 use Rattle.derive_lines.specs.declared.parts.Item.{Item}
-use Rattle.derive_lines.specs.declared.parts.Item.TheVariants.{Root, Decision as of_decision, Line as of_line}
+use Rattle.derive_lines.specs.declared.parts.Item.TheVariants.{Root}
 use Rattle.derive_lines.specs.declared.parts.Way.TheVariants.{Fwd}
 use Rattle.cert_text.specs.Tables.{is_same, stands_in}
 use Rattle.cert_read.proofs.Tables.{equal_number, own_number, same_line}

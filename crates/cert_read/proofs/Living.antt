@@ -1,5 +1,5 @@
 -- Lines that lead to a state begin the text of a certificate.
-use Rattle.std.specs.Prelude.{◌≡◌, ◌≢◌, ℕ, zero, suc, ◌+◌, ◌<◌, ◌≤◌, ◌-◌, Bool, true, false, ◌==◌, if◌then◌else◌, List, [], ◌∷◌, ◌++◌, length, map, flat_map, refl}
+use Rattle.std.specs.Prelude.{◌≡◌, ◌≢◌, ℕ, zero, suc, ◌+◌, ◌<◌, ◌≤◌, ◌-◌, true, false, ◌==◌, if◌then◌else◌, List, [], ◌∷◌, ◌++◌, length, map, flat_map, refl}
 use Rattle.std.specs.List.{AllByRecursion}
 use Rattle.std.proofs.Common.{sym, ◌∙◌, ap, subst, append_assoc, append-nil, arith}
 use Rattle.std.proofs.lemmas.List.{length-append}
@@ -13,22 +13,21 @@ use Rattle.cert_text.specs.declared.version.Version.TheVariants.{One, Two}
 use Rattle.cert_text.specs.declared.sentence.Sentence.{Sentence}
 use Rattle.cert_text.specs.declared.sentence.Sentence.TheVariants as says
 use Rattle.cert_text.specs.Numbers.{max_number}
-use Rattle.cert_text.specs.Tables.{stands_in, place, with_new, entry_lines, table}
-use Rattle.cert_text.specs.Sentences.{said_in, entry_sentences, head, sentences, spelled}
+use Rattle.cert_text.specs.Tables.{stands_in, with_new, entry_lines, table}
+use Rattle.cert_text.specs.Sentences.{entry_sentences, sentences, spelled}
 use Rattle.cert_text.specs.Text.{Fits}
-use Rattle.cert_lines.specs.declared.kind.Kind.TheVariants as kind
 use Rattle.cert_read.specs.declared.machine.Head.{Head}
 use Rattle.cert_lines.specs.Fitting.{FitsSentence}
 use Rattle.cert_read.specs.Faults.{BeginsAs}
-use Rattle.cert_read.specs.Machine.{Wording, InFull, ByPlace, Open, Nothing, InPost, InLeaf, State, AtStart, AtUnknowns, AtEquations, AtBudget, AtLines, InTable, Listing, Whole, Wrong, version_of, is_used_up, certificate, begin, filled, in_table, next, run, said, printed, unknowns}
+use Rattle.cert_read.specs.Machine.{Wording, InFull, ByPlace, Open, Nothing, InPost, InLeaf, State, AtStart, AtUnknowns, AtEquations, AtBudget, AtLines, InTable, Listing, Whole, Wrong, version_of, certificate, filled, next, run, said, printed, unknowns}
 use Rattle.cert_read.specs.Progress.{AreSaid}
 use Rattle.cert_text.proofs.Joined.{spelled-append}
 use Rattle.cert_read.proofs.Tables.{own_number, other_number, HasEachOnce, pushed_once, AllStandIn, new_append, new_length, new_stand}
-use Rattle.cert_read.proofs.Used.{different, IsTableOf, IsUsedBy, lines_of, closed_lines, IsSound, sound_next}
-use Rattle.cert_read.proofs.Runs.{MakesTable, Makes, Ready, between, behind_leaf, Reaches, entry_run, done_next, all_used, absent}
+use Rattle.cert_read.proofs.Used.{different, IsUsedBy, lines_of, closed_lines, IsSound}
+use Rattle.cert_read.proofs.Runs.{Makes, Ready, between, behind_leaf, entry_run, done_next, all_used, absent}
 use Rattle.cert_read.proofs.Mays.{weight, longer, begin_done, filled_keeps, fresh_line}
 use Rattle.cert_read.proofs.Steps.{run_printed}
-use Rattle.cert_read.proofs.Fit.{AllFit, fit_append, fit_parts, fit_certificate, places_fit}
+use Rattle.cert_read.proofs.Fit.{AllFit, fit_append, fit_certificate, places_fit}
 use Rattle.cert_read.proofs.Cut.{said_text}
 
 -- further lines that lead from a state to a certificate of the version, with as many unknowns as are said there

@@ -1,8 +1,7 @@
 -- Which lines may come next, by their kind alone.
-use Rattle.std.specs.Prelude.{◌≡◌, ◌≢◌, ℕ, ◌+◌, ◌<◌, ◌≤◌, Bool, true, false, ◌&&◌, not, ◌==◌, if◌then◌else◌, Option, None, Some, List, [], ◌∷◌, ◌++◌, length, refl}
+use Rattle.std.specs.Prelude.{◌≡◌, ◌≢◌, ℕ, ◌+◌, ◌≤◌, Bool, true, false, ◌&&◌, ◌==◌, if◌then◌else◌, Option, None, Some, List, [], ◌∷◌, ◌++◌, length, refl}
 use Rattle.std.proofs.Common.{sym, ◌∙◌, ap, arith}
 use Rattle.std.proofs.lemmas.List.{length-append}
-use Rattle.std.proofs.lemmas.Bool.Decides.{nat_tests}
 use Rattle.sparse_poly.specs.declared.Term.{Term}
 use Rattle.sparse_poly.specs.Contributions.{IsPoly}
 use Rattle.derive_lines.specs.declared.parts.Decision.{Decision}
@@ -23,9 +22,8 @@ use Rattle.cert_text.specs.declared.sentence.Sentence.TheVariants as says
 use Rattle.cert_text.specs.Numbers.{max_number}
 use Rattle.cert_lines.specs.Fitting.{FitsSentence}
 use Rattle.cert_text.specs.Tables.{stands_in}
-use Rattle.cert_read.specs.Machine.{Wording, InFull, ByPlace, Open, Nothing, InPost, InLeaf, State, AtStart, AtUnknowns, AtEquations, AtBudget, AtLines, InTable, Listing, Whole, Wrong, Taken, taken, is_used_up, version_of, is_in_full, certificate, begin, derive, in_post, in_leaf, at_start, at_unknowns, at_equations, headed, at_budget, filled, at_lines, in_table, next, kind_of, may_begin, may_post, may_leaf, is_title, is_unknowns, is_equations, is_budget, is_lines, is_derived, may, unknowns}
+use Rattle.cert_read.specs.Machine.{Wording, InFull, ByPlace, Nothing, InPost, InLeaf, State, AtStart, AtUnknowns, AtEquations, AtBudget, AtLines, InTable, Listing, Whole, Wrong, Taken, taken, is_used_up, version_of, certificate, begin, derive, in_post, in_leaf, at_start, at_unknowns, at_equations, headed, at_budget, filled, at_lines, in_table, next, kind_of, may_begin, may_post, may_leaf, is_title, is_unknowns, is_equations, is_budget, is_lines, is_derived, may, unknowns}
 use Rattle.cert_read.proofs.Tables.{both, own_number}
-use Rattle.cert_read.proofs.Used.{IsSound}
 use Rattle.cert_read.proofs.Fresh.{numbered, fresh}
 
 -- ---- a line that comes next is of a kind that may

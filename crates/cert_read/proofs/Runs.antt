@@ -17,7 +17,7 @@ use Rattle.cert_text.specs.declared.sentence.Sentence.TheVariants as says
 use Rattle.cert_text.specs.Tables.{stands_in, with_new, place, entry_lines, table}
 use Rattle.cert_text.specs.Sentences.{entry_sentences, sentences}
 use Rattle.cert_read.specs.declared.machine.Head.{Head}
-use Rattle.cert_read.specs.Machine.{Wording, InFull, ByPlace, Nothing, InPost, InLeaf, State, AtStart, InTable, Listing, Whole, Wrong, Taken, taken_at, taken, is_used_up, version_of, certificate, begin, derive, in_post, in_leaf, filled, next, run, said}
+use Rattle.cert_read.specs.Machine.{Wording, InFull, ByPlace, Nothing, InPost, InLeaf, State, AtStart, InTable, Listing, Whole, Wrong, taken_at, taken, is_used_up, version_of, certificate, begin, derive, in_post, in_leaf, filled, next, run, said}
 use Rattle.cert_read.proofs.Tables.{own_number, other_number, at_place, old_place, new_place, still_stands, HasEachOnce, none_once, new_append, grows, new_once}
 use Rattle.cert_read.proofs.Used.{different}
 

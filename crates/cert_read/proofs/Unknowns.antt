@@ -19,7 +19,7 @@ use Rattle.cert_text.specs.Sentences.{sentences}
 use Rattle.cert_lines.specs.Forms.{form, count_form, any_out}
 use Rattle.cert_lines.specs.Fitting.{FitsSentence}
 use Rattle.cert_text.specs.Tables.{stands_in}
-use Rattle.cert_read.specs.Machine.{Wording, ByPlace, Open, Nothing, InPost, InLeaf, State, AtStart, AtUnknowns, AtEquations, AtBudget, AtLines, InTable, Listing, Whole, Wrong, Taken, taken, is_used_up, version_of, certificate, begin, derive, in_post, in_leaf, listing, at_start, at_unknowns, at_equations, headed, at_budget, filled, at_lines, in_table, next, may, is_title, is_unknowns, printed, unknowns}
+use Rattle.cert_read.specs.Machine.{Wording, Open, Nothing, InPost, InLeaf, State, AtStart, AtUnknowns, AtEquations, AtBudget, AtLines, InTable, Listing, Whole, Wrong, Taken, taken, is_used_up, version_of, certificate, begin, derive, in_post, in_leaf, listing, at_start, at_unknowns, at_equations, headed, at_budget, filled, at_lines, in_table, next, may, is_title, is_unknowns, printed, unknowns}
 use Rattle.cert_read.proofs.Mays.{filled_keeps}
 use Rattle.cert_read.proofs.Fit.{AllFit, fit_append}
 

@@ -1,5 +1,5 @@
 -- The places of a table that lines have used.
-use Rattle.std.specs.Prelude.{◌≡◌, ◌≢◌, ℕ, zero, suc, ◌+◌, ◌<◌, ◌≤◌, Bool, true, false, ◌&&◌, ◌==◌, nat_le, if◌then◌else◌, Option, None, Some, List, [], ◌∷◌, ◌++◌, length, flat_map, slice_get, refl}
+use Rattle.std.specs.Prelude.{◌≡◌, ◌≢◌, ℕ, suc, ◌<◌, ◌≤◌, Bool, true, false, ◌&&◌, ◌==◌, nat_le, if◌then◌else◌, Option, None, Some, List, [], ◌∷◌, ◌++◌, length, flat_map, slice_get, refl}
 use Rattle.std.proofs.Common.{sym, ◌∙◌, ap, subst, append_assoc, append-nil, arith}
 use Rattle.std.proofs.lemmas.Bool.Decides.{nat_tests}
 use Rattle.std.proofs.lemmas.Grind.{flat_map-append}
@@ -16,8 +16,8 @@ use Rattle.cert_text.specs.declared.sentence.Sentence.{Sentence}
 use Rattle.cert_text.specs.declared.sentence.Sentence.TheVariants as says
 use Rattle.cert_text.specs.Tables.{stands_in, with_new, place, entry_lines}
 use Rattle.cert_read.specs.declared.machine.Head.{Head}
-use Rattle.cert_read.specs.Machine.{Wording, InFull, ByPlace, Open, Nothing, InPost, InLeaf, State, AtStart, AtUnknowns, AtEquations, AtBudget, AtLines, InTable, Listing, Whole, Wrong, Taken, taken_at, taken, is_used_up, version_of, certificate, begin, derive, in_post, in_leaf, listing, at_start, at_unknowns, at_equations, headed, at_budget, filled, at_lines, in_table, next, run, said}
-use Rattle.cert_read.proofs.Tables.{equal_number, own_number, other_number, at_place, old_place, later_place, new_place, HasEachOnce, none_once, pushed_once, new_append, grows, new_once}
+use Rattle.cert_read.specs.Machine.{Wording, InFull, ByPlace, Open, Nothing, InPost, InLeaf, State, AtStart, AtUnknowns, AtEquations, AtBudget, AtLines, InTable, Listing, Whole, Wrong, Taken, taken_at, taken, is_used_up, version_of, certificate, begin, derive, in_post, in_leaf, at_start, at_unknowns, at_equations, headed, at_budget, filled, at_lines, in_table, next, said}
+use Rattle.cert_read.proofs.Tables.{own_number, other_number, old_place, later_place, HasEachOnce, none_once, pushed_once, new_append}
 
 abbrev pub different : List Line → List Line
 different ls = with_new [] ls

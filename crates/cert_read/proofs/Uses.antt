@@ -1,5 +1,5 @@
 -- Where a line of a derivation may be said by its place.
-use Rattle.std.specs.Prelude.{◌≡◌, ◌≢◌, ℕ, ◌≤◌, Bool, true, false, ◌&&◌, not, ◌==◌, if◌then◌else◌, Option, None, Some, List, [], ◌∷◌, ◌++◌, codes, length, map, flat_map, refl}
+use Rattle.std.specs.Prelude.{◌≡◌, ◌≢◌, ℕ, ◌≤◌, true, false, ◌&&◌, not, Option, None, Some, List, [], ◌∷◌, ◌++◌, codes, map, flat_map, refl}
 use Rattle.std.specs.List.{AllByRecursion}
 use Rattle.std.proofs.Common.{sym, ◌∙◌, ap, subst, append_assoc}
 use Rattle.std.proofs.lemmas.List.{append_cancel_right}
@@ -13,18 +13,15 @@ use Rattle.cert_text.specs.declared.version.Version.{Version}
 use Rattle.cert_text.specs.declared.version.Version.TheVariants.{One, Two}
 use Rattle.cert_text.specs.declared.sentence.Sentence.{Sentence}
 use Rattle.cert_text.specs.declared.sentence.Sentence.TheVariants as says
-use Rattle.cert_text.specs.Fields.{version_text}
-use Rattle.cert_text.specs.Tables.{stands_in, place}
 use Rattle.cert_text.specs.Sentences.{fields, entry_sentences, head}
-use Rattle.cert_lines.specs.declared.kind.Kind.{Kind}
 use Rattle.cert_lines.specs.declared.kind.Kind.TheVariants as kind
 use Rattle.cert_lines.specs.Words.{words, first}
-use Rattle.cert_lines.specs.Forms.{form, has_form, kind_by_word}
+use Rattle.cert_lines.specs.Forms.{form, kind_by_word}
 use Rattle.cert_lines.specs.Fitting.{FitsSentence, Says}
 use Rattle.cert_lines.proofs.Noted.{right_formed}
 use Rattle.cert_read.specs.declared.machine.Head.{Head}
-use Rattle.cert_read.specs.Faults.{HasForm, is_before_use, MayUse}
-use Rattle.cert_read.specs.Machine.{Wording, InFull, ByPlace, Open, Nothing, InPost, InLeaf, State, AtStart, AtUnknowns, AtEquations, AtBudget, AtLines, InTable, Listing, Whole, Wrong, Taken, taken, is_used_up, version_of, is_in_full, certificate, begin, derive, in_post, in_leaf, at_start, at_unknowns, at_equations, headed, at_budget, filled, at_lines, in_table, next, said, open_sentences, table_of, printed, kind_of, may}
+use Rattle.cert_read.specs.Faults.{is_before_use, MayUse}
+use Rattle.cert_read.specs.Machine.{Wording, InFull, ByPlace, Open, Nothing, InPost, InLeaf, State, AtStart, AtUnknowns, AtEquations, AtBudget, AtLines, InTable, Listing, Whole, Wrong, Taken, taken, version_of, is_in_full, certificate, begin, derive, in_post, in_leaf, at_start, at_unknowns, at_equations, at_budget, at_lines, in_table, next, said, open_sentences, table_of, printed, kind_of, may}
 use Rattle.cert_read.specs.Progress.{AreSaid}
 use Rattle.cert_read.proofs.RightLines.{line_right}
 use Rattle.cert_read.proofs.Plain.{form_words, form_kind}

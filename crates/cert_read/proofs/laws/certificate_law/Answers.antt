@@ -1,5 +1,4 @@
 use Rattle.cert_read.proofs.OneAnswer.{one_certificate, no_fault, one_fault}
-use Rattle.cert_read.proofs.WrongLines.{wrong_line}
 use Rattle.cert_read.proofs.laws.certificate_law.Goals as goal
 
 pub returns : goal.returns
