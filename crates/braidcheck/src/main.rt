@@ -1,4 +1,5 @@
-//! Checks a certificate against a problem: the words are the paths of both files.
+//! Checks a certificate against a problem: the words are the paths of both files. Where the first is `--migrate`, it writes the certificate's text in
+//! version 2 to standard output.
 //!
 //! The line of a verdict goes to standard output, and that of every other end to standard error.
 #![tactic(auto)]
@@ -14,7 +15,7 @@ use std::{env, io};
 fn main(rt: HostRuntime) -> ExitCode {
     let status = match words(&rt) {
         Ok(words) => {
-            let mut problem = source_of(&rt, words.get(0));
+            let mut problem = source_of(&rt, problem_path(&words));
             let mut certificate = source_of(&rt, words.get(1));
             let mut sink = StdSink::new(rt.stdout());
             run_check::<Rationals, _, _, _>(
@@ -42,6 +43,11 @@ fn words(rt: &HostRuntime) -> io::Result<Vec<String>> {
         words.push(word)?;
     }
     Ok(words)
+}
+
+// The path of the problem: the first word, where it is not `--migrate`.
+fn problem_path(words: &[String]) -> Option<&String> {
+    words.first().filter(|word| word.as_str() != "--migrate")
 }
 
 // The file of this path, or an unopened source where there is no path or it can't be opened.

@@ -11,20 +11,22 @@ use Rattle.cert_text.specs.Sentences.{fields}
 use Rattle.cert_text.specs.Numbers.{max_number, HasItemInRange, HasDecisionInRange, HasLineInRange, HasEndInRange, HasSplitInRange, HasCloseInRange}
 use Rattle.sparse_poly.specs.Reads.{HasVariablesBelow}
 use Rattle.leaf_cert.specs.Variables.{HasDecisionVariablesBelow, HasLineVariablesBelow, HasEndVariablesBelow}
-use Rattle.cert_lines.specs.Forms.{Shape, Polynomial, Form, Ended, Field, ByWord, has_shape, is_out}
+use Rattle.cert_lines.specs.Forms.{greatest_place, Shape, Polynomial, Form, Ended, Field, ByWord, has_shape, is_out}
 
 -- all numbers of a line are in range, where there are u unknowns
 abbrev pub FitsSentence : ℕ → Sentence → Type 0
-FitsSentence u says.Title = Unit {0}
+FitsSentence u (says.Title version) = Unit {0}
 FitsSentence u (says.Unknowns n) = n ≤ 4096
 FitsSentence u (says.Equations n) = n ≤ 65536
 FitsSentence u (says.Budget n) = n ≤ 1000000
+FitsSentence u (says.Lines n) = n ≤ max_number
 FitsSentence u (says.Split n by) = HasSplitInRange n by × HasVariablesBelow u by
 FitsSentence u says.Post = Unit {0}
 FitsSentence u (says.Close n k) = HasCloseInRange n k
 FitsSentence u (says.Leaf n end) = (n ≤ max_number) × HasEndInRange end × HasEndVariablesBelow u end
 FitsSentence u (says.Decided d) = HasDecisionInRange d × HasDecisionVariablesBelow u d
 FitsSentence u (says.Derived l) = HasLineInRange l × HasLineVariablesBelow u l
+FitsSentence u (says.Use i) = i ≤ greatest_place
 FitsSentence u (says.End item) = HasItemInRange item
 FitsSentence u (says.Equation p) = IsPoly p × HasVariablesBelow u p
 FitsSentence u (says.Done n) = n ≤ max_number

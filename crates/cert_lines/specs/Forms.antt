@@ -107,18 +107,24 @@ end_form = ByWord (codes "triangular") Ended (Field (Word (codes "open")) cause_
 abbrev pub polys_form : Form
 polys_form = Field Polynomial (Field Polynomial (Field Polynomial (Field Polynomial Ended)))
 
+-- the greatest number of a place in a table
+abbrev pub greatest_place : ℕ
+greatest_place = 18_446_744_073_709_551_614
+
 -- the form of a line of this kind. The version number is no number.
 abbrev pub form : Kind → Form
-form kind.Title = Field (Word (codes "braidcert")) (Field (Word (codes "1")) Ended)
+form kind.Title = Field (Word (codes "braidcert")) (Field (OneOf (codes "1") (codes "2")) Ended)
 form kind.Unknowns = count_form (codes "unknowns") 4096
 form kind.Equations = count_form (codes "equations") 65536
 form kind.Budget = count_form (codes "budget") 1000000
+form kind.Lines = count_form (codes "lines") max_number
 form kind.Split = Field (Word (codes "split")) (Field any_number (Field Polynomial Ended))
 form kind.Post = Field (Word (codes "post")) Ended
 form kind.Close = Field (Word (codes "close")) (Field any_number (Field any_number Ended))
 form kind.Leaf = Field (Word (codes "leaf")) (Field any_number end_form)
 form kind.Decided = Field (OneOf (codes "zero") (codes "nonzero")) (Field Polynomial Ended)
 form kind.Derived = Field (OneOf (codes "fwd") (codes "back")) (Field Reference (Field Reference polys_form))
+form kind.Use = count_form (codes "use") greatest_place
 form kind.End = Field (Word (codes "end")) (Field Item Ended)
 form kind.Equation = Field (Word (codes "eq")) (Field Polynomial Ended)
 form kind.Done = count_form (codes "done") max_number
@@ -129,11 +135,13 @@ head_kind w = if bytes_eq w (codes "braidcert") then Some kind.Title
     else (if bytes_eq w (codes "unknowns") then Some kind.Unknowns
     else (if bytes_eq w (codes "equations") then Some kind.Equations
     else (if bytes_eq w (codes "budget") then Some kind.Budget
-    else (if bytes_eq w (codes "done") then Some kind.Done else None))))
+    else (if bytes_eq w (codes "lines") then Some kind.Lines
+    else (if bytes_eq w (codes "done") then Some kind.Done else None)))))
 
 -- the kind of a line, by its first word
 abbrev pub kind_by_word : List ℕ → Option Kind
 kind_by_word w = if bytes_eq w (codes "fwd") || bytes_eq w (codes "back") then Some kind.Derived
+    else (if bytes_eq w (codes "use") then Some kind.Use
     else (if bytes_eq w (codes "zero") || bytes_eq w (codes "nonzero") then Some kind.Decided
     else (if bytes_eq w (codes "eq") then Some kind.Equation
     else (if bytes_eq w (codes "split") then Some kind.Split
@@ -141,4 +149,4 @@ kind_by_word w = if bytes_eq w (codes "fwd") || bytes_eq w (codes "back") then S
     else (if bytes_eq w (codes "end") then Some kind.End
     else (if bytes_eq w (codes "close") then Some kind.Close
     else (if bytes_eq w (codes "leaf") then Some kind.Leaf
-    else head_kind w)))))))
+    else head_kind w))))))))

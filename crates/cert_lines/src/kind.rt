@@ -14,6 +14,8 @@ pub enum Kind {
     Equations,
     /// `budget`
     Budget,
+    /// `lines`
+    Lines,
     /// `split`
     Split,
     /// `post`
@@ -26,6 +28,8 @@ pub enum Kind {
     Decided,
     /// `fwd` or `back`
     Derived,
+    /// `use`
+    Use,
     /// `end`
     End,
     /// `eq`
@@ -40,6 +44,8 @@ pub fn kind_by_word(word: &[u8]) -> Option<Kind>
 {
     if is_word(word, b"fwd") || is_word(word, b"back") {
         Some(Kind::Derived)
+    } else if is_word(word, b"use") {
+        Some(Kind::Use)
     } else if is_word(word, b"zero") || is_word(word, b"nonzero") {
         Some(Kind::Decided)
     } else if is_word(word, b"eq") {
@@ -71,6 +77,8 @@ fn head_kind(word: &[u8]) -> Option<Kind>
         Some(Kind::Equations)
     } else if is_word(word, b"budget") {
         Some(Kind::Budget)
+    } else if is_word(word, b"lines") {
+        Some(Kind::Lines)
     } else if is_word(word, b"done") {
         Some(Kind::Done)
     } else {

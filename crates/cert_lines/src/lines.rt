@@ -1,6 +1,6 @@
 //! What a line says, read by its kind.
 ghost use Rattle.std.specs.Prelude.{ℕ, codes, IfOk, MatchResult};
-ghost use Rattle.cert_text.specs.Fields.{way_text, step_word, stop_fields, cause_fields, leaf_end_fields};
+ghost use Rattle.cert_text.specs.Fields.{version_text, way_text, step_word, stop_fields, cause_fields, leaf_end_fields};
 ghost use Rattle.cert_lines.specs.Forms.{OneOf, stop_form, cause_form, end_form};
 ghost use Rattle.cert_text.specs.Numbers.{HasStopInRange, HasCauseInRange, HasEndInRange};
 ghost use Rattle.leaf_cert.specs.Variables.{HasStopVariablesBelow, HasCauseVariablesBelow, HasEndVariablesBelow};
@@ -10,7 +10,7 @@ ghost use Rattle.cert_lines.specs.LineReading.{IsFieldRead, AreFieldsRead, IsSai
 use crate::fields::FieldReader;
 use crate::kind::Kind;
 use crate::notes::LineFault;
-use cert_text::Sentence;
+use cert_text::{Sentence, Version};
 use derive_lines::{Decision, Line, Way};
 use leaf_cert::{LeafEnd, OpenCause, StepKind, Stop};
 use std::alloc::{AllocError, Global};
@@ -20,9 +20,19 @@ fn title(line: &[u8]) -> Result<Sentence, LineFault>
 {
     let mut fields = FieldReader::of(line);
     fields.word(b"braidcert");
-    fields.word(b"1");
+    let version = version(&mut fields);
     fields.end();
-    fields.notes.judge(Sentence::Title)
+    fields.notes.judge(Sentence::Title(version))
+}
+
+fn version(fields: &mut FieldReader<'_>) -> Version
+    ensures { (u : ℕ) → IsFieldRead u (OneOf (codes "1") (codes "2")) (left fields.old.part) (left fields.new.part) fields.old.notes fields.new.notes (version_text result) (Unit {0}) }
+{
+    if fields.one_of(b"1", b"2") {
+        Version::One
+    } else {
+        Version::Two
+    }
 }
 
 fn unknowns(line: &[u8]) -> Result<Sentence, LineFault>
@@ -47,6 +57,14 @@ fn budget(line: &[u8]) -> Result<Sentence, LineFault>
     let mut fields = FieldReader::of(line);
     let number = fields.count(b"budget", 1_000_000);
     fields.notes.judge(Sentence::Budget(number as u32))
+}
+
+fn size(line: &[u8]) -> Result<Sentence, LineFault>
+    ensures { (u : ℕ) → MatchResult result (IsSaid u line.now) (IsLineFault u Kind.Lines line.now) }
+{
+    let mut fields = FieldReader::of(line);
+    let number = fields.count(b"lines", u64::MAX);
+    fields.notes.judge(Sentence::Lines(number))
 }
 
 fn split(alloc: Global, unknowns: u32, line: &[u8]) -> Result<Sentence, LineFault>
@@ -195,6 +213,14 @@ fn way(fields: &mut FieldReader<'_>) -> Way
     }
 }
 
+fn placed(line: &[u8]) -> Result<Sentence, LineFault>
+    ensures { (u : ℕ) → MatchResult result (IsSaid u line.now) (IsLineFault u Kind.Use line.now) }
+{
+    let mut fields = FieldReader::of(line);
+    let place = fields.count(b"use", u64::MAX - 1);
+    fields.notes.judge(Sentence::Use(place))
+}
+
 fn end(line: &[u8]) -> Result<Sentence, LineFault>
     ensures { (u : ℕ) → MatchResult result (IsSaid u line.now) (IsLineFault u Kind.End line.now) }
 {
@@ -239,12 +265,14 @@ pub fn read_sentence(
         Kind::Unknowns => self::unknowns(line),
         Kind::Equations => equations(line),
         Kind::Budget => budget(line),
+        Kind::Lines => size(line),
         Kind::Split => split(alloc, unknowns, line),
         Kind::Post => post(line),
         Kind::Close => close(line),
         Kind::Leaf => leaf(alloc, unknowns, line),
         Kind::Decided => decided(alloc, unknowns, line),
         Kind::Derived => derived(alloc, unknowns, line),
+        Kind::Use => placed(line),
         Kind::End => end(line),
         Kind::Equation => equation(alloc, unknowns, line),
         Kind::Done => done(line),

@@ -18,9 +18,11 @@ use Rattle.leaf_cert.specs.declared.ends.OpenCause.TheVariants.{Budget, Coeffici
 use Rattle.leaf_cert.specs.declared.ends.StepKind.{StepKind}
 use Rattle.leaf_cert.specs.declared.ends.StepKind.TheVariants.{Reduce, Tail}
 use Rattle.leaf_cert.specs.declared.ends.Stop.{Stop}
+use Rattle.cert_text.specs.declared.version.Version.{Version}
+use Rattle.cert_text.specs.declared.version.Version.TheVariants.{One, Two}
 use Rattle.cert_text.specs.declared.sentence.Sentence.{Sentence}
 use Rattle.cert_text.specs.declared.sentence.Sentence.TheVariants as says
-use Rattle.cert_text.specs.Fields.{item_text, reference_text, way_text, sign_word, step_word, stop_fields, cause_fields, leaf_end_fields}
+use Rattle.cert_text.specs.Fields.{version_text, item_text, reference_text, way_text, sign_word, step_word, stop_fields, cause_fields, leaf_end_fields}
 use Rattle.cert_text.specs.Sentences.{fields}
 use Rattle.cert_text.specs.Numbers.{max_number, HasItemInRange, HasReferenceInRange, HasStopInRange, HasCauseInRange, HasEndInRange}
 use Rattle.leaf_cert.specs.Variables.{HasStopVariablesBelow, HasCauseVariablesBelow, HasEndVariablesBelow}
@@ -40,22 +42,24 @@ way_kind Back = refl
 
 -- the first word of a line tells its kind
 pub kinded : (s : Sentence) → kind_by_word (first (fields s)) ≡ Some (kind_of s)
-kinded says.Title = refl
+kinded (says.Title v) = refl
 kinded (says.Unknowns n) = refl
 kinded (says.Equations n) = refl
 kinded (says.Budget n) = refl
+kinded (says.Lines n) = refl
 kinded (says.Split n by) = refl
 kinded says.Post = refl
 kinded (says.Close n k) = refl
 kinded (says.Leaf n end) = refl
 kinded (says.Decided d) = sign_kind d.zero
 kinded (says.Derived l) = way_kind l.way
+kinded (says.Use i) = refl
 kinded (says.End item) = refl
 kinded (says.Equation p) = refl
 kinded (says.Done n) = refl
 
 -- texts that a test tells apart
-apart : (x y : List ℕ) → bytes_eq x y ≡ false → x ≡ y → ⊥
+pub apart : (x y : List ℕ) → bytes_eq x y ≡ false → x ≡ y → ⊥
 apart x y h e = let w : true ≡ false = sym (same_bytes x) ∙ ap (bytes_eq x) e ∙ h in cc
 
 number : (n m : ℕ) → n ≤ max_number → m ≤ max_number → decimal n ≡ decimal m → n ≡ m
@@ -106,6 +110,12 @@ made_decision p z = record { poly = p; zero = z }
 abbrev made_line : Way → Option Item → Option Item → List Term → List Term → List Term → List Term → Line
 made_line w f b l a m r = record { way = w; from = f; by = b; l = l; a = a; m = m; made = r }
 
+version : (v w : Version) → version_text v ≡ version_text w → v ≡ w
+version One One e = refl
+version One Two e = absurd (apart (version_text One) (version_text Two) refl e)
+version Two One e = absurd (apart (version_text Two) (version_text One) refl e)
+version Two Two e = refl
+
 step : (a b : StepKind) → step_word a ≡ step_word b → a ≡ b
 step Reduce Reduce e = refl
 step Reduce Tail e = absurd (apart (step_word Reduce) (step_word Tail) refl e)
@@ -148,10 +158,11 @@ module _ (u v : ℕ) (small : u ≤ 4096) (low : v ≤ 4096) where
   ending (Open c) (Open d) g h i j e = ap Open (cause c d g h i j (cc))
 
   same_kind : (s t : Sentence) → kind_of s ≡ kind_of t → FitsSentence u s → FitsSentence v t → fields s ≡ fields t → s ≡ t
-  same_kind says.Title says.Title g h k e = refl
+  same_kind (says.Title v) (says.Title w) g h k e = ap says.Title (version v w (cc))
   same_kind (says.Unknowns n) (says.Unknowns m) g h k e = ap says.Unknowns (number n m (omega arith) (omega arith) (cc))
   same_kind (says.Equations n) (says.Equations m) g h k e = ap says.Equations (number n m (omega arith) (omega arith) (cc))
   same_kind (says.Budget n) (says.Budget m) g h k e = ap says.Budget (number n m (omega arith) (omega arith) (cc))
+  same_kind (says.Lines n) (says.Lines m) g h k e = ap says.Lines (number n m h k (cc))
   same_kind (says.Split n p) (says.Split m q) g h k e =
       let a : n ≡ m = number n m h.0.case_number k.0.case_number (cc) in
       let b : p ≡ q = one_poly p q h.0.poly k.0.poly (cc) in cc
@@ -176,6 +187,7 @@ module _ (u v : ℕ) (small : u ≤ 4096) (low : v ≤ 4096) where
       let s : x.made ≡ y.made = one_poly x.made y.made h.0.made k.0.made (cc) in
       ap says.Derived (ap (λ z. made_line z x.from x.by x.l x.a x.m x.made) a ∙ ap (λ z. made_line y.way z x.by x.l x.a x.m x.made) b ∙ ap (λ z. made_line y.way y.from z x.l x.a x.m x.made) c
       ∙ ap (λ z. made_line y.way y.from y.by z x.a x.m x.made) p ∙ ap (λ z. made_line y.way y.from y.by y.l z x.m x.made) q ∙ ap (λ z. made_line y.way y.from y.by y.l y.a z x.made) r ∙ ap (made_line y.way y.from y.by y.l y.a y.m) s)
+  same_kind (says.Use n) (says.Use m) g h k e = ap says.Use (number n m (omega (arith, h)) (omega (arith, k)) (cc))
   same_kind (says.End x) (says.End y) g h k e = ap says.End (item x y h k (cc))
   same_kind (says.Equation p) (says.Equation q) g h k e = ap says.Equation (one_poly p q h.0 k.0 (cc))
   same_kind (says.Done n) (says.Done m) g h k e = ap says.Done (number n m h k (cc))

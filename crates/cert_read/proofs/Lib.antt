@@ -1,3 +1,6 @@
+pub mod Tables
+pub mod Used
+pub mod Fresh
 pub mod RightLines
 pub mod Runs
 pub mod Steps
@@ -8,6 +11,7 @@ pub mod Plain
 pub mod Cut
 pub mod Unknowns
 pub mod Living
+pub mod Uses
 pub mod LinesRead
 pub mod Finish
 pub mod LineFaults

@@ -1,20 +1,22 @@
 -- A text that is read up to a line, and one line more.
-use Rattle.std.specs.Prelude.{◌≡◌, ◌≢◌, ℕ, ◌+◌, ◌<◌, ◌≤◌, Bool, true, false, ◌==◌, Some, List, [], ◌∷◌, ◌++◌, codes, length, refl}
+use Rattle.std.specs.Prelude.{◌≡◌, ◌≢◌, ℕ, ◌+◌, ◌<◌, ◌≤◌, ◌⊎◌, Bool, true, false, ◌==◌, Some, List, [], ◌∷◌, ◌++◌, codes, length, refl}
 use Rattle.std.specs.List.{AllByRecursion}
-use Rattle.std.proofs.Common.{sym, ◌∙◌, ap, subst, append_assoc, append-nil, arith}
+use Rattle.std.proofs.Common.{sym, ◌∙◌, ap, subst, inl, inr, append_assoc, append-nil, arith}
 use Rattle.std.proofs.lemmas.Bool.Decides.{nat_tests}
 use Rattle.std.proofs.lemmas.Grind.{flat_map-append}
 use Rattle.std.proofs.lemmas.List.{length-append}
 use Rattle.leaf_cert.specs.declared.certificate.Certificate.{Certificate}
 use Rattle.cert_lines.specs.declared.kind.Kind.{Kind}
+use Rattle.cert_lines.specs.declared.kind.Kind.TheVariants as kind
+use Rattle.cert_text.specs.declared.version.Version.{Version}
 use Rattle.cert_text.specs.declared.sentence.Sentence.{Sentence}
 use Rattle.cert_text.specs.Numbers.{max_number}
 use Rattle.cert_lines.specs.Bytes.{Lacks, IsSplitAt}
 use Rattle.cert_text.specs.Sentences.{fields, sentences}
 use Rattle.cert_lines.specs.Words.{words, first}
-use Rattle.cert_lines.specs.Forms.{form, has_form, any_out, kind_by_word}
+use Rattle.cert_lines.specs.Forms.{greatest_place, form, has_form, any_out, kind_by_word}
 use Rattle.cert_text.specs.Text.{IsText}
-use Rattle.cert_read.specs.Faults.{with_ends, IsOneLine, IsCut, BeginsAs, AreRight, MayStand, IsOutOfRange, IsWrongAt}
+use Rattle.cert_read.specs.Faults.{with_ends, IsOneLine, IsCut, BeginsAs, AreRight, HasForm, IsRightSomehow, MayUse, MayStand, IsOutOfRange, IsWrongAt}
 use Rattle.cert_lines.specs.Fitting.{FitsSentence, Says}
 use Rattle.cert_lines.specs.LineReading.{IsSaid}
 use Rattle.cert_read.specs.Machine.{State, AtStart, Wrong, next, run, may, unknowns, printed, kind_of}
@@ -24,13 +26,15 @@ use Rattle.cert_lines.proofs.Noted.{right_formed}
 use Rattle.cert_read.proofs.RightLines.{line_right}
 use Rattle.cert_read.proofs.Plain.{form_words, form_kind, kind_line}
 use Rattle.cert_read.proofs.Alone.{kinded}
+use Rattle.cert_read.proofs.Used.{IsSound}
 use Rattle.cert_read.proofs.Runs.{run-append}
-use Rattle.cert_read.proofs.Steps.{Begins, begins_run, run_printed}
-use Rattle.cert_read.proofs.Mays.{weight, weight_more, SomeLine, some_next, may_come}
-use Rattle.cert_read.proofs.Unknowns.{fits_next, fits_there, small_unknowns, out_alike}
+use Rattle.cert_read.proofs.Steps.{Begins, begins_run, run_sound, run_printed}
+use Rattle.cert_read.proofs.Mays.{weight, weight_more, is_use, SomeLine, some_next, may_come}
+use Rattle.cert_read.proofs.Unknowns.{fits_next, fits_there, small_unknowns, count_alike, out_alike}
 use Rattle.cert_read.proofs.Fit.{AllFit, fit_lines}
 use Rattle.cert_read.proofs.Cut.{said_text, line_of, of_says, of_lacks, said_words, GoesOn, goes_on}
 use Rattle.cert_read.proofs.Living.{Begun, begun}
+use Rattle.cert_read.proofs.Uses.{may_use, use_may}
 
 -- ---- lines with their LFs
 
@@ -64,6 +68,10 @@ cut_of (c ∷ cs) = by (c == 10) refl (cut_of cs)
     by : (b : Bool) → (c == 10) ≡ b → Cut cs → Cut (c ∷ cs)
     by true e k = record { lines = [] ∷ k.lines; piece = k.piece; cut = record { joined = ap (λ x. x ∷ cs) (is e) ∙ ap (λ x. 10 ∷ x) k.cut.joined; lines = (tt, k.cut.lines); unended = k.cut.unended } }
     by false e k = longer (is_not e) k.lines k.piece k.cut
+
+use_kind : (k : Kind) → is_use k ≡ true → k ≡ kind.Use
+use_kind kind.Use e = refl
+use_kind k e = absurd (cc)
 
 -- ---- lines that are said
 
@@ -102,8 +110,14 @@ ends_length (l ∷ ls) =
     omega (arith, a, b, r)
 
 module _ (text rest : List ℕ) (k : ℕ) (st : State) (r : IsReadTo text rest k st) where
+  taken : run AtStart r.sentences ≢ Wrong
+  taken e = r.live (sym r.leads ∙ e)
+
   here : printed st ≡ r.sentences
-  here = ap printed (sym r.leads) ∙ run_printed AtStart r.sentences (λ e. r.live (sym r.leads ∙ e))
+  here = ap printed (sym r.leads) ∙ run_printed AtStart r.sentences tt taken
+
+  sound : IsSound st
+  sound = subst IsSound r.leads (run_sound AtStart r.sentences tt taken)
 
   pub small : unknowns st ≤ 4096
   small = small_unknowns st (unknowns st) (subst (AllFit (unknowns st)) (sym here) r.fits)
@@ -124,12 +138,15 @@ module _ (text rest : List ℕ) (k : ℕ) (st : State) (r : IsReadTo text rest k
       let d = r.counted in
       omega (arith, a, b, c, d)
 
-  module _ (few : length text < max_number) where
-    few_entries : weight st + 1 ≤ max_number
+  pub said_count : length r.sentences ≡ k
+  said_count = let a = said_length r.lines r.sentences r.said in let b = r.counted in omega (arith, a, b)
+
+  module _ (few : length text + 8 < max_number) where
+    few_entries : weight st + 2 ≤ max_number
     few_entries = let a = weight_within in let b = counted_within in omega (arith, a, b, few)
 
     pub begun_here : Begun st r.lines
-    begun_here = begun st r.lines r.sentences r.said r.fits here r.live few_entries
+    begun_here = begun st r.lines r.sentences r.said r.fits here r.live sound few_entries (let a = said_count in let b = counted_within in omega (arith, a, b, few))
 
     pub are_right : AreRight r.lines
     are_right = (begun_here.certificate, begun_here.begins)
@@ -156,17 +173,17 @@ module _ (text rest : List ℕ) (k : ℕ) (st : State) (r : IsReadTo text rest k
         }
 
     -- what a certificate says in this line that begins with the lines before
-    goes : (c : Certificate) (l x : List ℕ) → Lacks 10 l → IsText (with_ends r.lines ++ (l ++ 10 ∷ x)) c → GoesOn c.unknowns r.sentences (sentences c) l
-    goes c l x n t = goes_on c.unknowns (unknowns st) t.fits.head.unknowns small r.lines r.sentences (sentences c) l x r.said r.fits (fit_lines c t.fits) n
+    goes : (c : Certificate) (l x : List ℕ) → Lacks 10 l → (t : IsText (with_ends r.lines ++ (l ++ 10 ∷ x)) c) → GoesOn c.unknowns r.sentences (sentences t.version c) l
+    goes c l x n t = goes_on c.unknowns (unknowns st) t.fits.head.unknowns small r.lines r.sentences (sentences t.version c) l x r.said r.fits (fit_lines t.version c t.fits) n
         (ap (λ z. z ++ (l ++ 10 ∷ x)) (sym (said_text r.lines r.sentences r.said)) ∙ t.spelled)
 
-    goes_live : (c : Certificate) (l : List ℕ) (g : GoesOn c.unknowns r.sentences (sentences c) l) → next st g.s ≢ Wrong
-    goes_live c l g w =
-        let b : Begins (r.sentences ++ g.s ∷ []) = (c, g.more, g.split ∙ sym (append_assoc r.sentences (g.s ∷ []) g.more)) in
+    goes_live : (v : Version) (c : Certificate) (l : List ℕ) (g : GoesOn c.unknowns r.sentences (sentences v c) l) → next st g.s ≢ Wrong
+    goes_live v c l g w =
+        let b : Begins (r.sentences ++ g.s ∷ []) = record { version = v; certificate = c; more = g.more; split = g.split ∙ sym (append_assoc r.sentences (g.s ∷ []) g.more) } in
         begins_run (r.sentences ++ g.s ∷ []) b (run-append AtStart r.sentences (g.s ∷ []) ∙ ap (λ x. next x g.s) r.leads ∙ w)
 
-    goes_fits : (c : Certificate) (l : List ℕ) (g : GoesOn c.unknowns r.sentences (sentences c) l) → FitsSentence (unknowns st) g.s
-    goes_fits c l g = fits_there st c (g.s ∷ g.more) g.s (g.split ∙ ap (λ x. x ++ g.s ∷ g.more) (sym here)) (goes_live c l g) g.fits
+    goes_fits : (v : Version) (c : Certificate) (l : List ℕ) (g : GoesOn c.unknowns r.sentences (sentences v c) l) → FitsSentence (unknowns st) g.s
+    goes_fits v c l g = fits_there st v c (g.s ∷ g.more) g.s (g.split ∙ ap (λ x. x ++ g.s ∷ g.more) (sym here)) (goes_live v c l g) g.fits
 
     right_text : (l : List ℕ) (c : Certificate) (b : BeginsAs (r.lines ++ l ∷ []) c) → IsText (with_ends r.lines ++ (l ++ 10 ∷ b.0)) c
     right_text l c b = subst (λ t. IsText t c) (ends_more r.lines l b.0) b.1
@@ -174,10 +191,11 @@ module _ (text rest : List ℕ) (k : ℕ) (st : State) (r : IsReadTo text rest k
     -- a line that says nothing that may come next is not right
     pub not_right : ((s : Sentence) → IsSaid (unknowns st) line s → next st s ≢ Wrong → ⊥) → AreRight (r.lines ++ line ∷ []) → ⊥
     not_right wrong b =
-        let g = goes b.0 line b.1.0 split.before (right_text line b.0 b.1) in
-        wrong g.s (record { says = g.said; fits = goes_fits b.0 line g }) (goes_live b.0 line g)
+        let t = right_text line b.0 b.1 in
+        let g = goes b.0 line b.1.0 split.before t in
+        wrong g.s (record { says = g.said; fits = goes_fits t.version b.0 line g }) (goes_live t.version b.0 line g)
 
-    module _ (few : length text < max_number) (wrong : (s : Sentence) → IsSaid (unknowns st) line s → next st s ≢ Wrong → ⊥) where
+    module _ (few : length text + 8 < max_number) (wrong : (s : Sentence) → IsSaid (unknowns st) line s → next st s ≢ Wrong → ⊥) where
       pub wrong_at : IsWrongAt text (k + 1) r.lines line
       wrong_at =
           let m = cut_of after in
@@ -198,7 +216,7 @@ module _ (text rest : List ℕ) (k : ℕ) (st : State) (r : IsReadTo text rest k
 
     -- ---- out of range
 
-    module _ (few : length text < max_number) where
+    module _ (few : length text + 8 < max_number) where
       module _ (j : Kind) (t : SomeLine st j) where
         fit : FitsSentence (unknowns st) t.said
         fit = t.fits (unknowns st)
@@ -206,8 +224,14 @@ module _ (text rest : List ℕ) (k : ℕ) (st : State) (r : IsReadTo text rest k
         next_leads : run AtStart (r.sentences ++ t.said ∷ []) ≡ next st t.said
         next_leads = run-append AtStart r.sentences (t.said ∷ []) ∙ ap (λ x. next x t.said) r.leads
 
+        next_taken : run AtStart (r.sentences ++ t.said ∷ []) ≢ Wrong
+        next_taken e = t.live (sym next_leads ∙ e)
+
         next_printed : printed (next st t.said) ≡ r.sentences ++ t.said ∷ []
-        next_printed = ap printed (sym next_leads) ∙ run_printed AtStart (r.sentences ++ t.said ∷ []) (λ e. t.live (sym next_leads ∙ e))
+        next_printed = ap printed (sym next_leads) ∙ run_printed AtStart (r.sentences ++ t.said ∷ []) tt next_taken
+
+        next_sound : IsSound (next st t.said)
+        next_sound = subst IsSound next_leads (run_sound AtStart (r.sentences ++ t.said ∷ []) tt next_taken)
 
         next_begun : Begun (next st t.said) (r.lines ++ line_of t.said ∷ [])
         next_begun =
@@ -216,9 +240,11 @@ module _ (text rest : List ℕ) (k : ℕ) (st : State) (r : IsReadTo text rest k
             let wk = weight_within in
             let cw = counted_within in
             let sl = ap (λ (x : List ℕ). length x) split.joined ∙ length-append line (10 ∷ after) in
-            begun (next st t.said) (r.lines ++ line_of t.said ∷ []) (r.sentences ++ t.said ∷ []) said (fits_next st r.sentences t.said here r.fits t.live fit) next_printed t.live (omega (arith, w, wk, cw, sl, few))
+            let sc = said_count in
+            let sn = length-append r.sentences (t.said ∷ []) in
+            begun (next st t.said) (r.lines ++ line_of t.said ∷ []) (r.sentences ++ t.said ∷ []) said (fits_next st r.sentences t.said here r.fits t.live fit) next_printed t.live next_sound (omega (arith, w, wk, cw, sl, few)) (omega (arith, cw, sl, sc, sn, few))
 
-        stands_so : MayStand r.lines j (unknowns st)
+        stands_so : IsRightSomehow r.lines j (unknowns st)
         stands_so = record {
           line = line_of t.said;
           fields = fields t.said;
@@ -229,7 +255,11 @@ module _ (text rest : List ℕ) (k : ℕ) (st : State) (r : IsReadTo text rest k
         }
 
       pub stands : (j : Kind) → may st j ≡ true → MayStand r.lines j (unknowns st)
-      stands j m = stands_so j (some_next st j m (let w = few_entries few in omega (arith, w)))
+      stands j m = by (is_use j) refl
+        where
+          by : (b : Bool) → is_use j ≡ b → MayStand r.lines j (unknowns st)
+          by false e = inl (stands_so j (some_next st j m e (let w = few_entries few in omega (arith, w))))
+          by true e = let q = use_kind j e in inr (q, may_use st r.lines r.sentences (unknowns st) small r.said here r.fits (ap (may st) (sym q) ∙ m))
 
       pub out_of_range : IsOutside st line → IsOutOfRange r.lines line
       out_of_range o = record {
@@ -242,22 +272,40 @@ module _ (text rest : List ℕ) (k : ℕ) (st : State) (r : IsReadTo text rest k
       }
 
     -- the number of unknowns is that of the certificate, or the kind of line has no variables
-    same_out : (c : Certificate) (l : List ℕ) (g : GoesOn c.unknowns r.sentences (sentences c) l) (j : Kind) (fs : List (List ℕ)) → may st j ≡ true → any_out c.unknowns (form j) fs ≡ any_out (unknowns st) (form j) fs
-    same_out c l g j fs m = out_alike st c (g.s ∷ g.more) j fs (g.split ∙ ap (λ x. x ++ g.s ∷ g.more) (sym here)) m
+    same_out : (v : Version) (c : Certificate) (l : List ℕ) (g : GoesOn c.unknowns r.sentences (sentences v c) l) (j : Kind) (fs : List (List ℕ)) → may st j ≡ true → any_out c.unknowns (form j) fs ≡ any_out (unknowns st) (form j) fs
+    same_out v c l g j fs m = out_alike st v c (g.s ∷ g.more) j fs (g.split ∙ ap (λ x. x ++ g.s ∷ g.more) (sym here)) m
 
-    pub not_out : ((j : Kind) → has_form (form j) (words line) ≡ true → may st j ≡ true → any_out (unknowns st) (form j) (words line) ≡ false) → IsOutOfRange r.lines line → ⊥
-    not_out inside o =
-        let q : words line ≡ o.fields = form_words o.kind line o.fields o.form_is.formed o.form_is.cut in
-        let m = o.stands in
-        let other : Lacks 10 m.line = kind_line o.kind m.line m.fields m.form.formed m.form.cut in
-        let g = goes m.certificate m.line m.right.0 other (right_text m.line m.certificate m.right) in
-        let fs : words m.line ≡ fields g.s = said_words (unknowns st) small m.line g.s (goes_fits m.certificate m.line g) g.said in
-        let ms : words m.line ≡ m.fields = form_words o.kind m.line m.fields m.form.formed m.form.cut in
-        let e : Some o.kind ≡ Some (kind_of g.s) = sym (form_kind o.kind m.fields m.form.formed) ∙ ap (λ f. kind_by_word (first f)) (sym ms ∙ fs) ∙ kinded g.s in
-        let same : kind_of g.s ≡ o.kind = cc in
-        let may_be : may st o.kind ≡ true = ap (may st) (sym same) ∙ may_come st g.s (goes_live m.certificate m.line g) in
-        let no = inside o.kind (ap (has_form (form o.kind)) q ∙ o.form_is.formed) may_be in
-        let yes : any_out (unknowns st) (form o.kind) (words line) ≡ true =
-        ap (any_out (unknowns st) (form o.kind)) q ∙ sym (same_out m.certificate m.line g o.kind o.fields may_be) ∙ ap (λ u. any_out u (form o.kind) o.fields) (sym m.unknowns) ∙ o.out in
-        let w : true ≡ false = sym yes ∙ no in
-        absurd (cc)
+    module _ (inside : (j : Kind) → has_form (form j) (words line) ≡ true → may st j ≡ true → any_out (unknowns st) (form j) (words line) ≡ false) where
+      not_so : (k : Kind) (fs : List (List ℕ)) (u : ℕ) → HasForm k line fs → may st k ≡ true → any_out u (form k) fs ≡ any_out (unknowns st) (form k) fs → any_out u (form k) fs ≡ true → ⊥
+      not_so k fs u f may_be same out =
+          let q : words line ≡ fs = form_words k line fs f.formed f.cut in
+          let no = inside k (ap (has_form (form k)) q ∙ f.formed) may_be in
+          let yes : any_out (unknowns st) (form k) (words line) ≡ true = ap (any_out (unknowns st) (form k)) q ∙ sym same ∙ out in
+          let w : true ≡ false = sym yes ∙ no in
+          cc
+
+      not_right_somehow : (k : Kind) (fs : List (List ℕ)) (u : ℕ) → HasForm k line fs → IsRightSomehow r.lines k u → any_out u (form k) fs ≡ true → ⊥
+      not_right_somehow k fs u f m out =
+          let other : Lacks 10 m.line = kind_line k m.line m.fields m.form.formed m.form.cut in
+          let t = right_text m.line m.certificate m.right in
+          let g = goes m.certificate m.line m.right.0 other t in
+          let ws : words m.line ≡ fields g.s = said_words (unknowns st) small m.line g.s (goes_fits t.version m.certificate m.line g) g.said in
+          let ms : words m.line ≡ m.fields = form_words k m.line m.fields m.form.formed m.form.cut in
+          let e : Some k ≡ Some (kind_of g.s) = sym (form_kind k m.fields m.form.formed) ∙ ap (λ x. kind_by_word (first x)) (sym ms ∙ ws) ∙ kinded g.s in
+          let same : kind_of g.s ≡ k = cc in
+          let may_be : may st k ≡ true = ap (may st) (sym same) ∙ may_come st g.s (goes_live t.version m.certificate m.line g) in
+          not_so k fs u f may_be (ap (λ x. any_out x (form k) fs) m.unknowns ∙ same_out t.version m.certificate m.line g k fs may_be) out
+
+      -- the state before the last line
+      back : (before : List Sentence) (s : Sentence) → r.sentences ≡ before ++ s ∷ [] → (old : State) × (next old s ≡ st)
+      back before s e = (run AtStart before, sym (run-append AtStart before (s ∷ [])) ∙ ap (run AtStart) (sym e) ∙ r.leads)
+
+      not_use : (fs : List (List ℕ)) (u : ℕ) → HasForm kind.Use line fs → MayUse r.lines → any_out u (form kind.Use) fs ≡ true → ⊥
+      not_use fs u f m out = not_so kind.Use fs u f (use_may st r.lines r.sentences (unknowns st) small r.said here r.fits back r.live m) (count_alike u (unknowns st) (codes "use") greatest_place fs) out
+
+      pub not_out : IsOutOfRange r.lines line → ⊥
+      not_out o = by o.stands
+        where
+          by : IsRightSomehow r.lines o.kind o.unknowns ⊎ ((o.kind ≡ kind.Use) × MayUse r.lines) → ⊥
+          by (inl m) = not_right_somehow o.kind o.fields o.unknowns o.form_is m o.out
+          by (inr m) = not_use o.fields o.unknowns (subst (λ k. HasForm k line o.fields) m.0 o.form_is) m.1 (subst (λ k. any_out o.unknowns (form k) o.fields ≡ true) m.0 o.out)

@@ -40,8 +40,10 @@ same_sentences u v a b (s ∷ ss) (t ∷ ts) f g e =
 
 pub one_certificate : (text : List ℕ) (c d : Certificate) → IsText text c → IsText text d → c ≡ d
 one_certificate text c d h k =
-    let e = same_sentences c.unknowns d.unknowns h.fits.head.unknowns k.fits.head.unknowns (sentences c) (sentences d) (fit_lines c h.fits) (fit_lines d k.fits) (sym h.spelled ∙ k.spelled) in
-    let w : Whole c ≡ Whole d = sym (whole_run c) ∙ ap (run AtStart) e ∙ whole_run d in
+    let v = h.version in
+    let w = k.version in
+    let e = same_sentences c.unknowns d.unknowns h.fits.head.unknowns k.fits.head.unknowns (sentences v c) (sentences w d) (fit_lines v c h.fits) (fit_lines w d k.fits) (sym h.spelled ∙ k.spelled) in
+    let q : Whole v c ≡ Whole w d = sym (whole_run v c) ∙ ap (run AtStart) e ∙ whole_run w d in
     cc
 
 -- ---- one way to cut

@@ -10,13 +10,15 @@ use Rattle.leaf_cert.specs.declared.ends.OpenCause.TheVariants.{Budget, Coeffici
 use Rattle.leaf_cert.specs.declared.ends.StepKind.{StepKind}
 use Rattle.leaf_cert.specs.declared.ends.StepKind.TheVariants.{Reduce, Tail}
 use Rattle.leaf_cert.specs.declared.ends.Stop.{Stop}
+use Rattle.cert_text.specs.declared.version.Version.{Version}
+use Rattle.cert_text.specs.declared.version.Version.TheVariants.{One, Two}
 use Rattle.cert_text.specs.declared.sentence.Sentence.{Sentence}
 use Rattle.cert_text.specs.declared.sentence.Sentence.TheVariants as says
-use Rattle.cert_text.specs.Fields.{sign_word, way_text, step_word, stop_fields, cause_fields, leaf_end_fields}
+use Rattle.cert_text.specs.Fields.{version_text, sign_word, way_text, step_word, stop_fields, cause_fields, leaf_end_fields}
 use Rattle.cert_text.specs.Sentences.{fields}
 use Rattle.cert_text.specs.Numbers.{max_number, HasStopInRange, HasCauseInRange, HasEndInRange}
 use Rattle.leaf_cert.specs.Variables.{HasStopVariablesBelow, HasCauseVariablesBelow, HasEndVariablesBelow}
-use Rattle.cert_lines.specs.Forms.{OneOf, form, stop_form, cause_form, end_form}
+use Rattle.cert_lines.specs.Forms.{greatest_place, OneOf, form, stop_form, cause_form, end_form}
 use Rattle.cert_lines.specs.Fitting.{IsRight, AreRightFields, FitsSentence}
 use Rattle.cert_read.specs.Machine.{kind_of}
 use Rattle.cert_lines.proofs.Shaped.{number_right, item_right, reference_right, variable_right, poly_right, word_right, first_right, second_right}
@@ -49,11 +51,16 @@ module _ (u : ℕ) (small : u ≤ 4096) where
   end_right Triangular h b = refl
   end_right (Open c) h b = (word_right u (codes "open"), cause_right c h b)
 
+  version_right : (v : Version) → IsRight u (OneOf (codes "1") (codes "2")) (version_text v)
+  version_right One = first_right u (codes "1") (codes "2")
+  version_right Two = second_right u (codes "1") (codes "2")
+
   pub line_right : (s : Sentence) → FitsSentence u s → AreRightFields u (form (kind_of s)) (fields s)
-  line_right says.Title h = (word_right u (codes "braidcert"), (word_right u (codes "1"), refl))
+  line_right (says.Title v) h = (word_right u (codes "braidcert"), (version_right v, refl))
   line_right (says.Unknowns n) h = (word_right u (codes "unknowns"), (number_right u n 4096 h (omega arith), refl))
   line_right (says.Equations n) h = (word_right u (codes "equations"), (number_right u n 65536 h (omega arith), refl))
   line_right (says.Budget n) h = (word_right u (codes "budget"), (number_right u n 1000000 h (omega arith), refl))
+  line_right (says.Lines n) h = (word_right u (codes "lines"), (number_right u n max_number h (omega arith), refl))
   line_right (says.Split n by) h = (word_right u (codes "split"), (number_right u n max_number h.0.case_number (omega arith), (poly_right u by low h.0.poly h.1, refl)))
   line_right says.Post h = (word_right u (codes "post"), refl)
   line_right (says.Close n k) h = (word_right u (codes "close"), (number_right u n max_number h.case_number (omega arith), (number_right u k max_number h.pattern (omega arith), refl)))
@@ -69,6 +76,7 @@ module _ (u : ℕ) (small : u ≤ 4096) where
       ),
     ),
   )
+  line_right (says.Use i) h = (word_right u (codes "use"), (number_right u i greatest_place h (omega arith), refl))
   line_right (says.End item) h = (word_right u (codes "end"), (item_right u item h, refl))
   line_right (says.Equation p) h = (word_right u (codes "eq"), (poly_right u p low h.0 h.1, refl))
   line_right (says.Done n) h = (word_right u (codes "done"), (number_right u n max_number h (omega arith), refl))

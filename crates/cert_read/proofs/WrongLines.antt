@@ -20,7 +20,7 @@ nothing_read text = record { lines = []; sentences = []; said = tt; fits = tt; l
 pub shorter : (rest line after : List ℕ) → IsSplitAt 10 rest line after → length after < length rest
 shorter rest line after h = let e = ap (λ (x : List ℕ). length x) h.joined ∙ length-append line (10 ∷ after) in omega (arith, e)
 
-module _ (text rest : List ℕ) (k : ℕ) (st : State) (r : IsReadTo text rest k st) (line after : List ℕ) (split : IsSplitAt 10 rest line after) (few : length text < max_number) where
+module _ (text rest : List ℕ) (k : ℕ) (st : State) (r : IsReadTo text rest k st) (line after : List ℕ) (split : IsSplitAt 10 rest line after) (few : length text + 8 < max_number) where
   pub wrong_line : (fault : LineFault) → IsWrongLine st line fault → IsCertFault text (fault_at (k + 1) fault)
   wrong_line Number h = record {
     before = r.lines;

@@ -1,10 +1,11 @@
 -- Why bytes are not the text of a certificate.
-use Rattle.std.specs.Prelude.{◌≡◌, ◌≢◌, ℕ, ◌+◌, ◌⊎◌, true, List, [], ◌∷◌, ◌++◌, codes, length, flat_map}
+use Rattle.std.specs.Prelude.{◌≡◌, ◌≢◌, ℕ, ◌+◌, ◌⊎◌, Bool, true, false, List, [], ◌∷◌, ◌++◌, codes, length, flat_map}
 use Rattle.std.specs.List.{AllByRecursion, Contains}
 use Rattle.leaf_cert.specs.declared.certificate.Certificate.{Certificate}
 use Rattle.cert_read.specs.declared.reader.CertFault.{CertFault}
 use Rattle.cert_read.specs.declared.reader.CertFault.TheVariants.{Truncated, Number, Syntax, OutOfMemory}
 use Rattle.cert_lines.specs.declared.kind.Kind.{Kind}
+use Rattle.cert_lines.specs.declared.kind.Kind.TheVariants as kind
 use Rattle.cert_text.specs.Fields.{ended}
 use Rattle.cert_lines.specs.Forms.{form, has_form, any_out}
 use Rattle.cert_text.specs.Text.{IsText}
@@ -37,13 +38,37 @@ pub record HasForm (kind : Kind) (line : List ℕ) (fs : List (List ℕ)) : Type
   pub formed : has_form (form kind) fs ≡ true
 
 -- behind these lines some line of the kind is right, in a certificate with u unknowns
-pub record MayStand (before : List (List ℕ)) (kind : Kind) (u : ℕ) : Type 0 where
+pub record IsRightSomehow (before : List (List ℕ)) (kind : Kind) (u : ℕ) : Type 0 where
   pub line : List ℕ
   pub fields : List (List ℕ)
   pub certificate : Certificate
   pub form : HasForm kind line fields
   pub right : BeginsAs (before ++ line ∷ []) certificate
   pub unknowns : u ≡ certificate.unknowns
+
+-- a derivation's line by its place stands behind a line of this kind
+abbrev pub is_before_use : Kind → Bool
+is_before_use kind.Post = true
+is_before_use kind.Leaf = true
+is_before_use kind.Decided = true
+is_before_use kind.Use = true
+is_before_use k = false
+
+-- these lines are of version 2, and behind the last one lines of a derivation stand, whatever the table has
+pub record MayUse (before : List (List ℕ)) : Type 0 where
+  pub after : List (List ℕ)
+  pub version : before ≡ codes "braidcert 2" ∷ after
+  pub front : List (List ℕ)
+  pub last : List ℕ
+  pub split : before ≡ front ++ last ∷ []
+  pub kind : Kind
+  pub fields : List (List ℕ)
+  pub form : HasForm kind last fields
+  pub behind : is_before_use kind ≡ true
+
+-- a line of this kind may stand there: some such line is right, or it is a `use` where lines of a derivation stand
+abbrev pub MayStand : List (List ℕ) → Kind → ℕ → Type 0
+MayStand before k u = IsRightSomehow before k u ⊎ ((k ≡ kind.Use) × MayUse before)
 
 -- the line has the form of a line that may stand there, and at least one of its numbers is out of range
 pub record IsOutOfRange (before : List (List ℕ)) (line : List ℕ) : Type 0 where

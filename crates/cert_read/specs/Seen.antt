@@ -1,10 +1,22 @@
 -- A state as the reader keeps it.
-use Rattle.std.specs.Prelude.{Option, None, Some}
+use Rattle.std.specs.Prelude.{ℕ, Option, None, Some}
 use Rattle.cert_read.specs.declared.machine.Opened.{Opened}
 use Rattle.cert_read.specs.declared.machine.Opened.TheVariants as opened
+use Rattle.cert_read.specs.declared.machine.Worded.{Worded}
+use Rattle.cert_read.specs.declared.machine.Worded.TheVariants as worded
 use Rattle.cert_read.specs.declared.machine.Kept.{Kept}
 use Rattle.cert_read.specs.declared.machine.Kept.TheVariants as kept
-use Rattle.cert_read.specs.Machine.{Open, Nothing, InPost, InLeaf, State, AtStart, AtUnknowns, AtEquations, AtBudget, Listing, Whole, Wrong}
+use Rattle.cert_read.specs.Machine.{Wording, InFull, ByPlace, Open, Nothing, InPost, InLeaf, State, AtStart, AtUnknowns, AtEquations, AtBudget, AtLines, InTable, Listing, Whole, Wrong}
+
+-- how lines are said
+abbrev pub seen_wording : Worded → Wording
+seen_wording worded.InFull = InFull
+seen_wording (worded.ByPlace table used) = ByPlace table
+
+-- how many places of the table are used
+abbrev pub seen_used : Worded → ℕ
+seen_used worded.InFull = 0
+seen_used (worded.ByPlace table used) = used
 
 -- what is open
 abbrev pub seen_open : Opened → Open
@@ -15,11 +27,13 @@ seen_open (opened.Leaf leaf) = InLeaf leaf.n leaf.end leaf.decisions.items leaf.
 -- what is kept
 abbrev pub seen : Kept → State
 seen kept.Start = AtStart
-seen kept.Unknowns = AtUnknowns
-seen (kept.Equations unknowns) = AtEquations unknowns
-seen (kept.Budget unknowns equations) = AtBudget unknowns equations
-seen (kept.Listing head entries open_part) = Listing head entries.items (seen_open open_part)
-seen (kept.Whole c) = Whole c
+seen (kept.Unknowns version) = AtUnknowns version
+seen (kept.Equations version unknowns) = AtEquations version unknowns
+seen (kept.Budget version unknowns equations) = AtBudget version unknowns equations
+seen (kept.Lines head) = AtLines head
+seen (kept.Table head size table) = InTable head size table
+seen (kept.Listing head wording entries open_part) = Listing head (seen_wording wording) (seen_used wording) entries.items (seen_open open_part)
+seen (kept.Whole version c) = Whole version c
 
 -- no state is kept where a line is wrong
 abbrev pub seen_or_wrong : Option Kept → State

@@ -4,6 +4,7 @@
 mod laws;
 mod machine;
 mod reader;
+mod table;
 
 pub use laws::certificate_law;
 pub use reader::{CertFault, read_certificate};

@@ -1,11 +1,13 @@
 //! The state that a certificate's lines lead to.
-ghost use Rattle.std.specs.Prelude.{◌≡◌, ◌==◌, ◌++◌, ◌∷◌, [], if◌then◌else◌, length, IfOk};
-ghost use Rattle.cert_read.specs.Machine.{begin, in_post, in_leaf, listing, at_start, at_unknowns, at_equations, at_budget, next, certificate, may, may_begin, may_post, may_leaf, may_open, unknowns, Nothing, Listing, Whole, Wrong};
+ghost use Rattle.std.specs.Prelude.{◌≡◌, ◌==◌, ◌&&◌, ◌++◌, ◌∷◌, [], if◌then◌else◌, length, IfOk};
+ghost use Rattle.cert_read.specs.Machine.{is_used_up, version_of, is_in_full, taken, taken_at, begin, in_post, in_leaf, listing, at_start, at_unknowns, at_equations, at_budget, filled, at_lines, in_table, next, certificate, may, may_begin, may_post, may_leaf, may_open, unknowns, Nothing, Listing, Whole, Wrong};
+ghost use Rattle.cert_text.specs.declared.sentence.Sentence.TheVariants as says;
 ghost use Rattle.leaf_cert.specs.declared.certificate.RawEntry.TheVariants.{Publish};
-ghost use Rattle.cert_read.specs.Seen.{seen, seen_open, seen_or_wrong};
+ghost use Rattle.cert_read.specs.Seen.{seen, seen_wording, seen_used, seen_open, seen_or_wrong};
 
+use crate::table::{LineTable, copied_line};
 use cert_lines::Kind;
-use cert_text::Sentence;
+use cert_text::{Sentence, Version};
 use derive_lines::{Decision, Line};
 use leaf_cert::{Certificate, LeafEnd, RawEntry, Rows};
 use sparse_poly::Poly;
@@ -44,34 +46,65 @@ pub enum Opened {
     Leaf(OpenLeaf),
 }
 
+/// How the lines of derivations are said.
+#[derive(Drop)]
+pub enum Worded {
+    /// Themselves.
+    InFull,
+    /// By their places in the table, of which the first `used` have been used.
+    ByPlace { table: LineTable, used: u64 },
+}
+
 /// What the lines so far say.
 #[derive(Drop)]
 pub enum Kept {
     Start,
-    Unknowns,
+    Unknowns {
+        version: Version,
+    },
     Equations {
+        version: Version,
         unknowns: u32,
     },
     Budget {
+        version: Version,
         unknowns: u32,
         equations: u32,
     },
+    Lines {
+        head: Head,
+    },
+    Table {
+        head: Head,
+        size: u64,
+        table: LineTable,
+    },
     Listing {
         head: Head,
+        wording: Worded,
         entries: Vec<RawEntry>,
         open: Opened,
     },
-    Whole(Certificate),
+    Whole {
+        version: Version,
+        certificate: Certificate,
+    },
 }
 
 // An entry more, behind which nothing is open.
-fn listed(head: Head, entries: Vec<RawEntry>, entry: RawEntry) -> Result<Option<Kept>, AllocError>
-    ensures { IfOk result (λ o. seen_or_wrong o ≡ Listing head (entries.items ++ entry ∷ []) Nothing) }
+fn listed(
+    head: Head,
+    wording: Worded,
+    entries: Vec<RawEntry>,
+    entry: RawEntry,
+) -> Result<Option<Kept>, AllocError>
+    ensures { IfOk result (λ o. seen_or_wrong o ≡ Listing head (seen_wording wording) (seen_used wording) (entries.items ++ entry ∷ []) Nothing) }
 {
     let mut entries = entries;
     entries.push(entry)?;
     Ok(Some(Kept::Listing {
         head,
+        wording,
         entries,
         open: Opened::Nothing,
     }))
@@ -81,62 +114,131 @@ fn listed(head: Head, entries: Vec<RawEntry>, entry: RawEntry) -> Result<Option<
 fn begin(
     alloc: Global,
     head: Head,
+    wording: Worded,
     entries: Vec<RawEntry>,
     said: Sentence,
 ) -> Result<Option<Kept>, AllocError>
-    ensures { IfOk result (λ o. seen_or_wrong o ≡ begin head entries.items said) }
+    ensures { IfOk result (λ o. seen_or_wrong o ≡ begin head (seen_wording wording) (seen_used wording) entries.items said) }
 {
-    match said {
-        Sentence::Split { n, by } => listed(head, entries, RawEntry::Split { n, by }),
-        Sentence::Close { n, k } => listed(head, entries, RawEntry::Close { n, k }),
-        Sentence::Post => Ok(Some(Kept::Listing {
-            head,
-            entries,
-            open: Opened::Post(OpenPost {
-                decisions: Vec::new(alloc),
-                lines: Vec::new(alloc),
-            }),
-        })),
-        Sentence::Leaf { n, end } => Ok(Some(Kept::Listing {
-            head,
-            entries,
-            open: Opened::Leaf(OpenLeaf {
-                n,
-                end,
-                decisions: Vec::new(alloc),
-                lines: Vec::new(alloc),
-                equations: Vec::new(alloc),
-            }),
-        })),
-        Sentence::Done(n) => Ok(ended(head, entries, n)),
-        _ => Ok(None),
+    let open = match said {
+        Sentence::Split { n, by } => {
+            return listed(head, wording, entries, RawEntry::Split { n, by });
+        }
+        Sentence::Close { n, k } => {
+            return listed(head, wording, entries, RawEntry::Close { n, k });
+        }
+        Sentence::Post => Opened::Post(OpenPost {
+            decisions: Vec::new(alloc),
+            lines: Vec::new(alloc),
+        }),
+        Sentence::Leaf { n, end } => Opened::Leaf(OpenLeaf {
+            n,
+            end,
+            decisions: Vec::new(alloc),
+            lines: Vec::new(alloc),
+            equations: Vec::new(alloc),
+        }),
+        Sentence::Done(n) => return Ok(ended(head, &wording, entries, n)),
+        _ => return Ok(None),
+    };
+    Ok(Some(Kept::Listing {
+        head,
+        wording,
+        entries,
+        open,
+    }))
+}
+
+// The end of the entries, whose number is to be theirs, and behind which no place of the table is unused.
+fn ended(head: Head, wording: &Worded, entries: Vec<RawEntry>, n: u64) -> Option<Kept>
+    ensures { seen_or_wrong result ≡ (if (n == length entries.items) && is_used_up (seen_wording wording.now) (seen_used wording.now) then Whole (version_of (seen_wording wording.now)) (certificate head entries.items) else Wrong) }
+{
+    if n != entries.len() as u64 || !is_used_up(wording) {
+        return None;
+    }
+    Some(Kept::Whole {
+        version: version_of(wording),
+        certificate: Certificate {
+            unknowns: head.unknowns,
+            equations: head.equations,
+            budget: head.budget,
+            entries: Rows::of(entries),
+        },
+    })
+}
+
+// The version in which lines are said so.
+fn version_of(wording: &Worded) -> Version
+    ensures { result ≡ version_of (seen_wording wording.now) }
+{
+    match wording {
+        Worded::InFull => Version::One,
+        Worded::ByPlace { .. } => Version::Two,
     }
 }
 
-// The end of the entries, whose number is to be theirs.
-fn ended(head: Head, entries: Vec<RawEntry>, n: u64) -> Option<Kept>
-    ensures { seen_or_wrong result ≡ (if n == length entries.items then Whole (certificate head entries.items) else Wrong) }
+// Whether all places of the table are used.
+fn is_used_up(wording: &Worded) -> bool
+    ensures { result ≡ is_used_up (seen_wording wording.now) (seen_used wording.now) }
 {
-    if n != entries.len() as u64 {
-        return None;
+    match wording {
+        Worded::InFull => true,
+        Worded::ByPlace { table, used } => *used == table.len(),
     }
-    Some(Kept::Whole(Certificate {
-        unknowns: head.unknowns,
-        equations: head.equations,
-        budget: head.budget,
-        entries: Rows::of(entries),
-    }))
+}
+
+// Whether lines are said themselves.
+fn is_in_full(wording: &Worded) -> bool
+    ensures { result ≡ is_in_full (seen_wording wording.now) }
+{
+    match wording {
+        Worded::InFull => true,
+        Worded::ByPlace { .. } => false,
+    }
+}
+
+// A line that says itself, where lines do.
+fn in_full(wording: &Worded, line: Line) -> Option<Line>
+    ensures { taken (seen_wording wording.now) (seen_used wording.now) (says.Derived line) ≡ taken_at (seen_used wording.now) result }
+{
+    match wording {
+        Worded::InFull => Some(line),
+        Worded::ByPlace { .. } => None,
+    }
+}
+
+// The line at a place that was used before, or at the next one.
+fn by_place(wording: &mut Worded, place: u64) -> Result<Option<Line>, AllocError>
+    ensures wording { seen_wording wording.new ≡ seen_wording wording.old }
+    ensures line { IfOk result (λ o. taken (seen_wording wording.old) (seen_used wording.old) (says.Use place) ≡ taken_at (seen_used wording.new) o) }
+{
+    let Worded::ByPlace { table, used } = wording else {
+        return Ok(None);
+    };
+    if place > *used {
+        return Ok(None);
+    }
+    let Some(line) = table.line(place) else {
+        return Ok(None);
+    };
+    let line = copied_line(line)?;
+    if place == *used {
+        *used += 1;
+    }
+    Ok(Some(line))
 }
 
 // A line of a post.
 fn in_post(
     head: Head,
+    wording: Worded,
     entries: Vec<RawEntry>,
     post: OpenPost,
     said: Sentence,
 ) -> Result<Option<Kept>, AllocError>
-    ensures { IfOk result (λ o. seen_or_wrong o ≡ in_post head entries.items post.decisions.items post.lines.items said) }
+    ensures { IfOk result (λ o. seen_or_wrong o ≡ in_post head (seen_wording wording) (seen_used wording) entries.items post.decisions.items post.lines.items said) }
 {
+    let mut wording = wording;
     let mut post = post;
     match said {
         Sentence::Decided(decision) => {
@@ -146,11 +248,21 @@ fn in_post(
             post.decisions.push(decision)?;
         }
         Sentence::Derived(line) => {
+            let Some(line) = in_full(&wording, line) else {
+                return Ok(None);
+            };
+            post.lines.push(line)?;
+        }
+        Sentence::Use(place) => {
+            let Some(line) = by_place(&mut wording, place)? else {
+                return Ok(None);
+            };
             post.lines.push(line)?;
         }
         Sentence::End(end) => {
             return listed(
                 head,
+                wording,
                 entries,
                 RawEntry::Post {
                     decisions: Rows::of(post.decisions),
@@ -163,6 +275,7 @@ fn in_post(
     }
     Ok(Some(Kept::Listing {
         head,
+        wording,
         entries,
         open: Opened::Post(post),
     }))
@@ -172,11 +285,12 @@ fn in_post(
 fn behind_leaf(
     alloc: Global,
     head: Head,
+    wording: Worded,
     entries: Vec<RawEntry>,
     leaf: OpenLeaf,
     said: Sentence,
 ) -> Result<Option<Kept>, AllocError>
-    ensures { IfOk result (λ o. seen_or_wrong o ≡ begin head (entries.items ++ Publish leaf.n leaf.decisions.items leaf.lines.items leaf.equations.items leaf.end ∷ []) said) }
+    ensures { IfOk result (λ o. seen_or_wrong o ≡ begin head (seen_wording wording) (seen_used wording) (entries.items ++ Publish leaf.n leaf.decisions.items leaf.lines.items leaf.equations.items leaf.end ∷ []) said) }
 {
     let mut entries = entries;
     entries.push(RawEntry::Publish {
@@ -186,19 +300,21 @@ fn behind_leaf(
         equations: Rows::of(leaf.equations),
         end: leaf.end,
     })?;
-    begin(alloc, head, entries, said)
+    begin(alloc, head, wording, entries, said)
 }
 
 // A line of a leaf, or behind one.
 fn in_leaf(
     alloc: Global,
     head: Head,
+    wording: Worded,
     entries: Vec<RawEntry>,
     leaf: OpenLeaf,
     said: Sentence,
 ) -> Result<Option<Kept>, AllocError>
-    ensures { IfOk result (λ o. seen_or_wrong o ≡ in_leaf head entries.items leaf.n leaf.end leaf.decisions.items leaf.lines.items leaf.equations.items said) }
+    ensures { IfOk result (λ o. seen_or_wrong o ≡ in_leaf head (seen_wording wording) (seen_used wording) entries.items leaf.n leaf.end leaf.decisions.items leaf.lines.items leaf.equations.items said) }
 {
+    let mut wording = wording;
     let mut leaf = leaf;
     match said {
         Sentence::Decided(decision) => {
@@ -208,6 +324,18 @@ fn in_leaf(
             leaf.decisions.push(decision)?;
         }
         Sentence::Derived(line) => {
+            let Some(line) = in_full(&wording, line) else {
+                return Ok(None);
+            };
+            if !leaf.equations.is_empty() {
+                return Ok(None);
+            }
+            leaf.lines.push(line)?;
+        }
+        Sentence::Use(place) => {
+            let Some(line) = by_place(&mut wording, place)? else {
+                return Ok(None);
+            };
             if !leaf.equations.is_empty() {
                 return Ok(None);
             }
@@ -216,10 +344,11 @@ fn in_leaf(
         Sentence::Equation(equation) => {
             leaf.equations.push(equation)?;
         }
-        said => return behind_leaf(alloc, head, entries, leaf, said),
+        said => return behind_leaf(alloc, head, wording, entries, leaf, said),
     }
     Ok(Some(Kept::Listing {
         head,
+        wording,
         entries,
         open: Opened::Leaf(leaf),
     }))
@@ -229,16 +358,17 @@ fn in_leaf(
 fn listing(
     alloc: Global,
     head: Head,
+    wording: Worded,
     entries: Vec<RawEntry>,
     part: Opened,
     said: Sentence,
 ) -> Result<Option<Kept>, AllocError>
-    ensures { IfOk result (λ o. seen_or_wrong o ≡ listing head entries.items (seen_open part) said) }
+    ensures { IfOk result (λ o. seen_or_wrong o ≡ listing head (seen_wording wording) (seen_used wording) entries.items (seen_open part) said) }
 {
     match part {
-        Opened::Nothing => begin(alloc, head, entries, said),
-        Opened::Post(post) => in_post(head, entries, post, said),
-        Opened::Leaf(leaf) => in_leaf(alloc, head, entries, leaf, said),
+        Opened::Nothing => begin(alloc, head, wording, entries, said),
+        Opened::Post(post) => in_post(head, wording, entries, post, said),
+        Opened::Leaf(leaf) => in_leaf(alloc, head, wording, entries, leaf, said),
     }
 }
 
@@ -247,27 +377,31 @@ fn at_start(said: &Sentence) -> Option<Kept>
     ensures { seen_or_wrong result ≡ at_start said.now }
 {
     match said {
-        Sentence::Title => Some(Kept::Unknowns),
+        Sentence::Title(version) => Some(Kept::Unknowns { version: *version }),
         _ => None,
     }
 }
 
 // The line behind the first.
-fn at_unknowns(said: &Sentence) -> Option<Kept>
-    ensures { seen_or_wrong result ≡ at_unknowns said.now }
+fn at_unknowns(version: Version, said: &Sentence) -> Option<Kept>
+    ensures { seen_or_wrong result ≡ at_unknowns version said.now }
 {
     match said {
-        Sentence::Unknowns(n) => Some(Kept::Equations { unknowns: *n }),
+        Sentence::Unknowns(n) => Some(Kept::Equations {
+            version,
+            unknowns: *n,
+        }),
         _ => None,
     }
 }
 
 // The line behind the number of unknowns.
-fn at_equations(unknowns: u32, said: &Sentence) -> Option<Kept>
-    ensures { seen_or_wrong result ≡ at_equations unknowns said.now }
+fn at_equations(version: Version, unknowns: u32, said: &Sentence) -> Option<Kept>
+    ensures { seen_or_wrong result ≡ at_equations version unknowns said.now }
 {
     match said {
         Sentence::Equations(n) => Some(Kept::Budget {
+            version,
             unknowns,
             equations: *n,
         }),
@@ -276,20 +410,82 @@ fn at_equations(unknowns: u32, said: &Sentence) -> Option<Kept>
 }
 
 // The line behind the number of equations.
-fn at_budget(alloc: Global, unknowns: u32, equations: u32, said: &Sentence) -> Option<Kept>
-    ensures { seen_or_wrong result ≡ at_budget unknowns equations said.now }
+fn at_budget(
+    alloc: Global,
+    version: Version,
+    unknowns: u32,
+    equations: u32,
+    said: &Sentence,
+) -> Option<Kept>
+    ensures { seen_or_wrong result ≡ at_budget version unknowns equations said.now }
 {
     match said {
-        Sentence::Budget(n) => Some(Kept::Listing {
-            head: Head {
+        Sentence::Budget(n) => {
+            let head = Head {
                 unknowns,
                 equations,
                 budget: *n,
-            },
-            entries: Vec::new(alloc),
-            open: Opened::Nothing,
-        }),
+            };
+            match version {
+                Version::One => Some(listing_from(alloc, head, Worded::InFull)),
+                Version::Two => Some(Kept::Lines { head }),
+            }
+        }
         _ => None,
+    }
+}
+
+// Behind the lines before the entries.
+fn listing_from(alloc: Global, head: Head, wording: Worded) -> Kept
+    ensures { seen result ≡ Listing head (seen_wording wording) (seen_used wording) [] Nothing }
+{
+    Kept::Listing {
+        head,
+        wording,
+        entries: Vec::new(alloc),
+        open: Opened::Nothing,
+    }
+}
+
+// A table with what it has so far: the entries begin where it is full.
+fn filled(alloc: Global, head: Head, size: u64, table: LineTable) -> Kept
+    ensures { seen result ≡ filled head size table }
+{
+    if table.len() == size {
+        return listing_from(alloc, head, Worded::ByPlace { table, used: 0 });
+    }
+    Kept::Table { head, size, table }
+}
+
+// The line behind the budget of version 2.
+fn at_lines(alloc: Global, head: Head, said: &Sentence) -> Option<Kept>
+    ensures { seen_or_wrong result ≡ at_lines head said.now }
+{
+    match said {
+        Sentence::Lines(n) => Some(filled(alloc, head, *n, LineTable::new(alloc))),
+        _ => None,
+    }
+}
+
+// A line of the table, which it has not yet.
+fn in_table(
+    alloc: Global,
+    head: Head,
+    size: u64,
+    table: LineTable,
+    said: Sentence,
+) -> Result<Option<Kept>, AllocError>
+    ensures { IfOk result (λ o. seen_or_wrong o ≡ in_table head size table said) }
+{
+    let mut table = table;
+    match said {
+        Sentence::Derived(line) => {
+            if !table.push(line)? {
+                return Ok(None);
+            }
+            Ok(Some(filled(alloc, head, size, table)))
+        }
+        _ => Ok(None),
     }
 }
 
@@ -299,62 +495,70 @@ pub(crate) fn next(alloc: Global, kept: Kept, said: Sentence) -> Result<Option<K
 {
     match kept {
         Kept::Start => Ok(at_start(&said)),
-        Kept::Unknowns => Ok(at_unknowns(&said)),
-        Kept::Equations { unknowns } => Ok(at_equations(unknowns, &said)),
+        Kept::Unknowns { version } => Ok(at_unknowns(version, &said)),
+        Kept::Equations { version, unknowns } => Ok(at_equations(version, unknowns, &said)),
         Kept::Budget {
+            version,
             unknowns,
             equations,
-        } => Ok(at_budget(alloc, unknowns, equations, &said)),
+        } => Ok(at_budget(alloc, version, unknowns, equations, &said)),
+        Kept::Lines { head } => Ok(at_lines(alloc, head, &said)),
+        Kept::Table { head, size, table } => in_table(alloc, head, size, table, said),
         Kept::Listing {
             head,
+            wording,
             entries,
             open,
-        } => listing(alloc, head, entries, open, said),
-        Kept::Whole(_) => Ok(None),
+        } => listing(alloc, head, wording, entries, open, said),
+        Kept::Whole { .. } => Ok(None),
     }
 }
 
 // Whether a line of this kind may begin an entry, or end the entries.
-fn may_begin(kind: Kind) -> bool
-    ensures { result ≡ may_begin kind }
+fn may_begin(wording: &Worded, kind: Kind) -> bool
+    ensures { result ≡ may_begin (seen_wording wording.now) (seen_used wording.now) kind }
 {
     match kind {
-        Kind::Split | Kind::Post | Kind::Close | Kind::Leaf | Kind::Done => true,
+        Kind::Split | Kind::Post | Kind::Close | Kind::Leaf => true,
+        Kind::Done => is_used_up(wording),
         _ => false,
     }
 }
 
 // Whether it may stand in a post with these lines.
-fn may_post(lines: &[Line], kind: Kind) -> bool
-    ensures { result ≡ may_post lines.now kind }
+fn may_post(wording: &Worded, lines: &[Line], kind: Kind) -> bool
+    ensures { result ≡ may_post (seen_wording wording.now) lines.now kind }
 {
     match kind {
         Kind::Decided => lines.is_empty(),
-        Kind::Derived | Kind::End => true,
+        Kind::Derived => is_in_full(wording),
+        Kind::Use => !is_in_full(wording),
+        Kind::End => true,
         _ => false,
     }
 }
 
 // Whether it may stand in or behind a leaf with these lines and equations.
-fn may_leaf(lines: &[Line], equations: &[Poly], kind: Kind) -> bool
-    ensures { result ≡ may_leaf lines.now equations.now kind }
+fn may_leaf(wording: &Worded, lines: &[Line], equations: &[Poly], kind: Kind) -> bool
+    ensures { result ≡ may_leaf (seen_wording wording.now) (seen_used wording.now) lines.now equations.now kind }
 {
     match kind {
         Kind::Decided => lines.is_empty() && equations.is_empty(),
-        Kind::Derived => equations.is_empty(),
+        Kind::Derived => is_in_full(wording) && equations.is_empty(),
+        Kind::Use => !is_in_full(wording) && equations.is_empty(),
         Kind::Equation => true,
-        kind => may_begin(kind),
+        kind => may_begin(wording, kind),
     }
 }
 
 // Whether it may come where this is open.
-fn may_open(part: &Opened, kind: Kind) -> bool
-    ensures { result ≡ may_open (seen_open part.now) kind }
+fn may_open(wording: &Worded, part: &Opened, kind: Kind) -> bool
+    ensures { result ≡ may_open (seen_wording wording.now) (seen_used wording.now) (seen_open part.now) kind }
 {
     match part {
-        Opened::Nothing => may_begin(kind),
-        Opened::Post(post) => may_post(&post.lines, kind),
-        Opened::Leaf(leaf) => may_leaf(&leaf.lines, &leaf.equations, kind),
+        Opened::Nothing => may_begin(wording, kind),
+        Opened::Post(post) => may_post(wording, &post.lines, kind),
+        Opened::Leaf(leaf) => may_leaf(wording, &leaf.lines, &leaf.equations, kind),
     }
 }
 
@@ -364,11 +568,13 @@ pub(crate) fn may(kept: &Kept, kind: Kind) -> bool
 {
     match kept {
         Kept::Start => matches!(kind, Kind::Title),
-        Kept::Unknowns => matches!(kind, Kind::Unknowns),
+        Kept::Unknowns { .. } => matches!(kind, Kind::Unknowns),
         Kept::Equations { .. } => matches!(kind, Kind::Equations),
         Kept::Budget { .. } => matches!(kind, Kind::Budget),
-        Kept::Listing { open, .. } => may_open(open, kind),
-        Kept::Whole(_) => false,
+        Kept::Lines { .. } => matches!(kind, Kind::Lines),
+        Kept::Table { .. } => matches!(kind, Kind::Derived),
+        Kept::Listing { wording, open, .. } => may_open(wording, open, kind),
+        Kept::Whole { .. } => false,
     }
 }
 
@@ -377,10 +583,12 @@ pub(crate) fn unknowns(kept: &Kept) -> u32
     ensures { result ≡ unknowns (seen kept.now) }
 {
     match kept {
-        Kept::Start | Kept::Unknowns => 0,
-        Kept::Equations { unknowns } => *unknowns,
+        Kept::Start | Kept::Unknowns { .. } => 0,
+        Kept::Equations { unknowns, .. } => *unknowns,
         Kept::Budget { unknowns, .. } => *unknowns,
+        Kept::Lines { head } => head.unknowns,
+        Kept::Table { head, .. } => head.unknowns,
         Kept::Listing { head, .. } => head.unknowns,
-        Kept::Whole(certificate) => certificate.unknowns,
+        Kept::Whole { certificate, .. } => certificate.unknowns,
     }
 }

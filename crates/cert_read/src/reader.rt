@@ -1,5 +1,5 @@
 //! The reader.
-ghost use Rattle.std.specs.Prelude.{◌≡◌, ◌<◌, ◌≤◌, ℕ, List, length, MatchOption, MatchResult};
+ghost use Rattle.std.specs.Prelude.{◌≡◌, ◌+◌, ◌<◌, ◌≤◌, ℕ, List, length, MatchOption, MatchResult};
 ghost use Rattle.cert_lines.specs.Bytes.{Lacks, IsSplitAt};
 ghost use Rattle.cert_text.specs.Numbers.{max_number};
 ghost use Rattle.cert_text.specs.Text.{IsText};
@@ -104,9 +104,9 @@ fn fault_at(line: u64, fault: LineFault) -> CertFault
 // What a text is that has been read up to a piece without LF, behind so many lines.
 fn finish(kept: Kept, rest: &[u8], count: u64) -> Result<Certificate, CertFault>
     requires { count < 18_446_744_073_709_551_615 }
-    ensures { (text : List ℕ) → IsReadTo text rest.now count (seen kept) → length text < max_number → Lacks 10 rest.now → MatchResult result (IsText text) (IsCertFault text) }
+    ensures { (text : List ℕ) → IsReadTo text rest.now count (seen kept) → length text + 8 < max_number → Lacks 10 rest.now → MatchResult result (IsText text) (IsCertFault text) }
 {
-    let Kept::Whole(certificate) = kept else {
+    let Kept::Whole { certificate, .. } = kept else {
         return Err(CertFault::Truncated);
     };
     if !rest.is_empty() {

@@ -15,6 +15,8 @@ use Rattle.leaf_cert.specs.declared.ends.OpenCause.TheVariants.{Budget, Coeffici
 use Rattle.leaf_cert.specs.declared.ends.StepKind.{StepKind}
 use Rattle.leaf_cert.specs.declared.ends.StepKind.TheVariants.{Reduce, Tail}
 use Rattle.leaf_cert.specs.declared.ends.Stop.{Stop}
+use Rattle.cert_text.specs.declared.version.Version.{Version}
+use Rattle.cert_text.specs.declared.version.Version.TheVariants.{One, Two}
 
 -- the fields behind the first one, each behind a space, and LF
 abbrev pub further : List (List ℕ) → List ℕ
@@ -25,6 +27,11 @@ further (f ∷ fs) = codes " " ++ f ++ further fs
 abbrev pub ended : List (List ℕ) → List ℕ
 ended [] = codes "\n"
 ended (f ∷ fs) = f ++ further fs
+
+-- the digit of a version
+abbrev pub version_text : Version → List ℕ
+version_text One = codes "1"
+version_text Two = codes "2"
 
 -- what an item is, and its place
 abbrev pub item_text : Item → List ℕ

@@ -1,16 +1,21 @@
 //! The writer.
-ghost use Rattle.std.specs.Prelude.{◌≡◌, ◌≤◌, ◌++◌, ◌∷◌, [], OnOk, IfOk, All, length, map, flat_map};
+ghost use Rattle.std.specs.Prelude.{◌≡◌, ◌≤◌, ◌++◌, ◌∷◌, [], OnOk, IfOk, All, codes, length, map, flat_map};
 ghost use Rattle.sparse_poly.specs.Contributions.{IsPoly};
-ghost use Rattle.cert_text.specs.Fields.{ended, split_fields, close_fields, leaf_fields, end_fields, equation_fields};
-ghost use Rattle.cert_text.specs.Sentences.{entry_sentences, head, spelled, certificate_text};
+ghost use Rattle.cert_text.specs.Fields.{ended, count_fields, split_fields, close_fields, leaf_fields, end_fields, equation_fields};
+ghost use Rattle.cert_text.specs.Tables.{table};
+ghost use Rattle.cert_text.specs.Sentences.{fields, use_of, entry_sentences, head, spelled, text_in};
 ghost use Rattle.cert_text.specs.Numbers.{max_number, HasDecisionInRange, HasLineInRange, HasItemInRange, HasEndInRange, HasSplitInRange, HasCloseInRange, HasPostInRange, HasLeafInRange, HasEntryInRange, HasNumbersInRange};
 ghost use Rattle.cert_text.specs.declared.sentence.Sentence.TheVariants as says;
+ghost use Rattle.cert_text.specs.declared.version.Version.TheVariants as Version;
 
+use crate::keys::BorrowedKey;
 use crate::parts::{
     push_count, push_decision, push_item, push_leaf_end, push_line, push_number, push_poly,
     push_text,
 };
+use crate::tables::{line_is_in_range, place, size, tabulated};
 use derive_lines::{Decision, Item, Line};
+use indexmap::IndexSet;
 use leaf_cert::{Certificate, LeafEnd, RawEntry};
 use sparse_poly::Poly;
 use std::alloc::{AllocError, Global};
@@ -74,12 +79,47 @@ fn push_decisions(decisions: &[Decision], into: &mut Vec<u8>) -> Result<(), Allo
     Ok(())
 }
 
-fn push_lines(lines: &[Line], into: &mut Vec<u8>) -> Result<(), AllocError>
-    ensures text { OnOk result (into.new.items ≡ into.old.items ++ spelled (map says.Derived lines.now)) }
+// The lines of the table.
+fn push_table(table: &IndexSet<BorrowedKey<'_>>, into: &mut Vec<u8>) -> Result<(), AllocError>
+    ensures text { OnOk result (into.new.items ≡ into.old.items ++ (ended (count_fields (codes "lines") (length table.now.keys)) ++ spelled (map says.Derived table.now.keys))) }
+    ensures size { length table.now.keys ≤ max_number }
+{
+    push_count(b"lines", size(table), into)?;
+    push_lines(table.as_slice(), into)
+}
+
+fn push_lines(lines: &[BorrowedKey<'_>], into: &mut Vec<u8>) -> Result<(), AllocError>
+    ensures { OnOk result (into.new.items ≡ into.old.items ++ spelled (map says.Derived lines.now)) }
+{
+    'lines: for line in lines {
+        push_line(line.line(), into)?;
+    }
+    Ok(())
+}
+
+// A line by its place in the table.
+fn push_use(
+    table: &IndexSet<BorrowedKey<'_>>,
+    line: &Line,
+    into: &mut Vec<u8>,
+) -> Result<(), AllocError>
+    ensures text { OnOk result (into.new.items ≡ into.old.items ++ ended (fields (use_of table.now.keys line.now))) }
+    ensures numbers { HasLineInRange line.now }
+{
+    line_is_in_range(line);
+    push_count(b"use", place(table, line), into)
+}
+
+fn push_uses(
+    table: &IndexSet<BorrowedKey<'_>>,
+    lines: &[Line],
+    into: &mut Vec<u8>,
+) -> Result<(), AllocError>
+    ensures text { OnOk result (into.new.items ≡ into.old.items ++ spelled (map (use_of table.now.keys) lines.now)) }
     ensures numbers { OnOk result (All HasLineInRange lines.now) }
 {
     'lines: for line in lines {
-        push_line(line, into)?;
+        push_use(table, line, into)?;
     }
     Ok(())
 }
@@ -96,22 +136,24 @@ fn push_equations(equations: &[Poly], into: &mut Vec<u8>) -> Result<(), AllocErr
 
 #[tactic(auto, using(crate::proofs::Joined::post_joined))]
 fn push_post(
+    table: &IndexSet<BorrowedKey<'_>>,
     decisions: &[Decision],
     lines: &[Line],
     end: Item,
     into: &mut Vec<u8>,
 ) -> Result<(), AllocError>
-    ensures text { OnOk result (into.new.items ≡ into.old.items ++ spelled (says.Post ∷ (map says.Decided decisions.now ++ (map says.Derived lines.now ++ says.End end ∷ [])))) }
+    ensures text { OnOk result (into.new.items ≡ into.old.items ++ spelled (says.Post ∷ (map says.Decided decisions.now ++ (map (use_of table.now.keys) lines.now ++ says.End end ∷ [])))) }
     ensures numbers { OnOk result (HasPostInRange decisions.now lines.now end) }
 {
     push_text(b"post\n", into)?;
     push_decisions(decisions, into)?;
-    push_lines(lines, into)?;
+    push_uses(table, lines, into)?;
     push_end(end, into)
 }
 
 #[tactic(auto, using(crate::proofs::Joined::leaf_joined))]
 fn push_publish(
+    table: &IndexSet<BorrowedKey<'_>>,
     n: u64,
     decisions: &[Decision],
     lines: &[Line],
@@ -119,17 +161,21 @@ fn push_publish(
     end: &LeafEnd,
     into: &mut Vec<u8>,
 ) -> Result<(), AllocError>
-    ensures text { OnOk result (into.new.items ≡ into.old.items ++ spelled (says.Leaf n end.now ∷ (map says.Decided decisions.now ++ (map says.Derived lines.now ++ map says.Equation equations.now)))) }
+    ensures text { OnOk result (into.new.items ≡ into.old.items ++ spelled (says.Leaf n end.now ∷ (map says.Decided decisions.now ++ (map (use_of table.now.keys) lines.now ++ map says.Equation equations.now)))) }
     ensures numbers { OnOk result (HasLeafInRange n decisions.now lines.now equations.now end.now) }
 {
     push_leaf(n, end, into)?;
     push_decisions(decisions, into)?;
-    push_lines(lines, into)?;
+    push_uses(table, lines, into)?;
     push_equations(equations, into)
 }
 
-fn push_entry(entry: &RawEntry, into: &mut Vec<u8>) -> Result<(), AllocError>
-    ensures text { OnOk result (into.new.items ≡ into.old.items ++ spelled (entry_sentences entry.now)) }
+fn push_entry(
+    table: &IndexSet<BorrowedKey<'_>>,
+    entry: &RawEntry,
+    into: &mut Vec<u8>,
+) -> Result<(), AllocError>
+    ensures text { OnOk result (into.new.items ≡ into.old.items ++ spelled (entry_sentences (use_of table.now.keys) entry.now)) }
     ensures numbers { OnOk result (HasEntryInRange entry.now) }
 {
     match entry {
@@ -138,7 +184,7 @@ fn push_entry(entry: &RawEntry, into: &mut Vec<u8>) -> Result<(), AllocError>
             decisions,
             lines,
             end,
-        } => push_post(decisions.items(), lines.items(), *end, into),
+        } => push_post(table, decisions.items(), lines.items(), *end, into),
         RawEntry::Close { n, k } => push_close(*n, *k, into),
         RawEntry::Publish {
             n,
@@ -147,6 +193,7 @@ fn push_entry(entry: &RawEntry, into: &mut Vec<u8>) -> Result<(), AllocError>
             equations,
             end,
         } => push_publish(
+            table,
             *n,
             decisions.items(),
             lines.items(),
@@ -157,34 +204,41 @@ fn push_entry(entry: &RawEntry, into: &mut Vec<u8>) -> Result<(), AllocError>
     }
 }
 
-fn push_entries(entries: &[RawEntry], into: &mut Vec<u8>) -> Result<(), AllocError>
-    ensures text { OnOk result (into.new.items ≡ into.old.items ++ spelled (flat_map entry_sentences entries.now)) }
+fn push_entries(
+    table: &IndexSet<BorrowedKey<'_>>,
+    entries: &[RawEntry],
+    into: &mut Vec<u8>,
+) -> Result<(), AllocError>
+    ensures text { OnOk result (into.new.items ≡ into.old.items ++ spelled (flat_map (entry_sentences (use_of table.now.keys)) entries.now)) }
     ensures numbers { OnOk result (All HasEntryInRange entries.now) }
 {
     'entries: for entry in entries {
-        push_entry(entry, into)?;
+        push_entry(table, entry, into)?;
     }
     Ok(())
 }
 
 fn push_head(c: &Certificate, into: &mut Vec<u8>) -> Result<(), AllocError>
-    ensures { OnOk result (into.new.items ≡ into.old.items ++ spelled (head c.now)) }
+    ensures { OnOk result (into.new.items ≡ into.old.items ++ spelled (head Version.Two c.now)) }
 {
-    push_text(b"braidcert 1\n", into)?;
+    push_text(b"braidcert 2\n", into)?;
     push_count(b"unknowns", c.unknowns, into)?;
     push_count(b"equations", c.equations, into)?;
     push_count(b"budget", c.budget, into)
 }
 
-/// The text of a certificate. It fails only where no memory is left.
-#[tactic(auto, using(crate::proofs::Joined::text_joined))]
+/// The text of a certificate, in version 2. It fails only where no memory is left.
 pub fn write_certificate(alloc: Global, c: &Certificate) -> Result<Vec<u8>, AllocError>
-    ensures text { IfOk result (λ v. v.items ≡ certificate_text c.now) }
+    ensures text { IfOk result (λ v. v.items ≡ text_in Version.Two c.now) }
     ensures numbers { IfOk result (λ _. HasNumbersInRange c.now) }
+    ensures lines { IfOk result (λ _. length (table c.now) ≤ max_number) }
 {
+    let entries = c.entries.items();
+    let table = tabulated(alloc, entries)?;
     let mut text = Vec::new(alloc);
     push_head(c, &mut text)?;
-    push_entries(c.entries.items(), &mut text)?;
-    push_count(b"done", c.entries.items().len() as u64, &mut text)?;
+    push_table(&table, &mut text)?;
+    push_entries(&table, entries, &mut text)?;
+    push_count(b"done", entries.len() as u64, &mut text)?;
     Ok(text)
 }

@@ -21,7 +21,8 @@ use Rattle.cert_check.specs.Accepting.{IsRefused, IsAcceptStop}
 use Rattle.cert_check.specs.declared.answers.AcceptStop.{AcceptStop}
 use Rattle.cert_check.specs.declared.answers.AcceptStop.TheVariants.{Refused as refusal, OutOfMemory as no_check_memory}
 use Rattle.cert_text.specs.Text.{IsText}
-use Rattle.cert_text.specs.Sentences.{certificate_text}
+use Rattle.cert_text.specs.declared.version.Version.TheVariants.{Two}
+use Rattle.cert_text.specs.Sentences.{text_in}
 use Rattle.cert_read.specs.Faults.{IsCertFault}
 use Rattle.cert_read.specs.declared.reader.CertFault.{CertFault}
 use Rattle.cert_read.specs.declared.reader.CertFault.TheVariants.{OutOfMemory as no_text_memory}
@@ -37,7 +38,9 @@ use Rattle.solve_run.specs.declared.status.Status.{Status}
 use Rattle.solve_run.specs.declared.status.Status.TheVariants.{Done, Open}
 use Rattle.check_run.specs.Statuses.{read_status, root_status, text_status, verdict_status}
 use Rattle.check_run.specs.Verdicts.{AcceptsWith, IsVerdict, HasNoVerdict, no_root, no_text, no_memory}
-use Rattle.check_run.specs.Outcomes.{max_certificate_bytes, IsUnjudged, CheckEnds, stops_at_problem, stops_at_certificate, has_no_verdict, by_words as check_by_words, by_inputs, by_verdict, by_sink as check_by_sink, by_memory}
+use Rattle.check_run.specs.Inputs.{max_certificate_bytes}
+use Rattle.check_run.specs.Migrations.{IsNotMigrated, MigrationEnds, not_read, not_text, by_certificate, by_text, by_fault, by_lack}
+use Rattle.check_run.specs.Outcomes.{IsUnjudged, CheckEnds, stops_at_problem, stops_at_certificate, has_no_verdict, by_words as check_by_words, by_migration, by_inputs, by_verdict, by_sink as check_by_sink, by_memory}
 use Rattle.check_run.specs.Completeness.{IsAnswer, with_verdict}
 use Rattle.check_run.specs.declared.status.Which.{Which}
 use Rattle.check_run.specs.declared.status.Which.TheVariants as which
@@ -129,7 +132,7 @@ is_written laws f words source sink status leaves opens bytes text ends all wrot
       checked = c.certificate;
       short = has.0;
       has_root = has.1;
-      is_text = record { fits = c.fits plain; spelled = appended sink.before sink.after wrote.earlier text (certificate_text c.certificate) wrote.before wrote.after writes };
+      is_text = record { version = Two; fits = c.fits plain; spelled = appended sink.before sink.after wrote.earlier text (text_in Two c.certificate) wrote.before wrote.after writes };
       accepts = record { accepted = c.searched.accepted; leaves_are = c.leaves_are; opens_are = c.opens_are };
     }
 
@@ -184,9 +187,22 @@ unjudged laws problem certificate bytes text leaves opens result given w (has_no
     let text_is = laws.read max_certificate_bytes certificate text second given.tells_text are in
     without laws bytes text leaves opens status w (subst (λ (b : List ℕ). HasNoVerdict bytes b status) text_is (subst (λ (b : List ℕ). HasNoVerdict b second status) bytes_are none))
 
+unmigrated : AreOneReading → (certificate : Stream) (text : List ℕ) (checked : Checked) (status : CheckStatus) → Tells certificate text → IsText text checked → IsNotMigrated certificate status → IsNeverRefused status
+unmigrated laws certificate text checked result tells is_text (not_read status not) = subst IsNeverRefused (sym not.status_is) (unread which.Certificate not.stop)
+unmigrated laws certificate text checked result tells is_text (not_text all fault reads is) =
+    let same = laws.read max_certificate_bytes certificate text all tells reads in
+    subst (λ (g : CertFault). IsNeverRefused (text_status g)) (sym (laws.no_fault text checked fault is_text (subst (λ (b : List ℕ). IsCertFault b fault) same is))) memory
+
+migrated : AreOneReading → (certificate out : Stream) (text : List ℕ) (checked : Checked) (status : CheckStatus) → Tells certificate text → IsText text checked → MigrationEnds certificate out status → IsNeverRefused status
+migrated laws certificate out text checked result tells is_text (by_certificate status is) = unmigrated laws certificate text checked status tells is_text is
+migrated laws certificate out text checked result tells is_text (by_text read reads wrote) = record { read = λ fault e. cc; not_refused = λ part number cause e. cc }
+migrated laws certificate out text checked result tells is_text (by_fault read reads rose wrote) = record { read = λ fault e. cc; not_refused = λ part number cause e. cc }
+migrated laws certificate out text checked result tells is_text by_lack = memory
+
 pub never_refused : AreOneReading → {E : Type 0} (f : Field E) (others : List (List ℕ)) (problem certificate out : Stream) (bytes text : List ℕ) (leaves opens : ℕ) (ending : CheckStatus)
     → IsGiven problem certificate bytes text → IsWritten bytes text leaves opens → CheckEnds f others problem certificate out ending → IsNeverRefused ending
 never_refused laws f others problem certificate out bytes text leaves opens result given w (check_by_words is) = record { read = λ fault e. cc; not_refused = λ part number cause e. cc }
+never_refused laws f others problem certificate out bytes text leaves opens result given w (by_migration status asks untouched is) = migrated laws certificate out text w.checked status given.tells_text w.is_text is
 never_refused laws f others problem certificate out bytes text leaves opens result given w (by_inputs status two is) = unjudged laws problem certificate bytes text leaves opens status given w is
 never_refused laws f others problem certificate out bytes text leaves opens result given w (by_verdict v two j wrote) =
     let bytes_are = laws.read max_problem_bytes problem bytes j.problem_bytes given.tells_problem j.reads_problem in

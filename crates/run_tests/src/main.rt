@@ -1,17 +1,18 @@
-//! Works tables of examples of checks and of boards, which come from standard input, and writes the wrong rows and the number of rows to standard output.
+//! Works tables of examples of checks, migrations and boards, which come from standard input, and writes the wrong rows and the number of rows to standard output.
 //!
 //! The answers come from outside: they were worked out by hand or by an independent program.
 #![tactic(auto)]
 
 mod boards;
 mod checks;
+mod migrations;
 
 use braid_io::{StdSink, StdSource};
 use std::alloc::Global;
 use std::process::ExitCode;
 use table_tests::{Answers, Fault, exit_of, work_tables};
 
-/// The answers to questions of boards and checks.
+/// The answers to questions of boards, checks and migrations.
 struct Examples;
 
 impl Answers for Examples {
@@ -22,6 +23,9 @@ impl Answers for Examples {
             "checks" => checks::check(alloc, question),
             "unended checks" => checks::check_unended(alloc, question),
             "check faults" => checks::check_on_devices(alloc, question),
+            "migrations" => migrations::migration(alloc, question),
+            "migrated texts" => migrations::migrated(alloc, question),
+            "migration faults" => migrations::on_devices(alloc, question),
             _ => Err(Fault::Form),
         }
     }

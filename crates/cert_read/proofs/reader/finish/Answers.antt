@@ -9,7 +9,7 @@ returns-in_default c text r few lacks = truncated text c.args.rest.now c.args.co
 
 pub returns-then-not-is_empty : goal.returns-then-not-is_empty
 returns-then-not-is_empty c text r few lacks =
-    inr (trailing text c.args.rest.now c.args.count (seen c.args.kept) r c.in-Whole.certificate (ap seen c.in-Whole.is) few lacks (some_bytes c.args.rest.now (sym c.is_empty.ensures ∙ c.if-not-is_empty.true)))
+    inr (trailing text c.args.rest.now c.args.count (seen c.args.kept) r c.in-Whole.version c.in-Whole.certificate (ap seen c.in-Whole.is) few lacks (some_bytes c.args.rest.now (sym c.is_empty.ensures ∙ c.if-not-is_empty.true)))
 
 pub returns : goal.returns
-returns c text r few lacks = whole_text text c.args.rest.now c.args.count (seen c.args.kept) r c.in-Whole.certificate (ap seen c.in-Whole.is) (no_bytes c.args.rest.now (sym c.is_empty.ensures ∙ c.if-not-is_empty.false))
+returns c text r few lacks = whole_text text c.args.rest.now c.args.count (seen c.args.kept) r c.in-Whole.version c.in-Whole.certificate (ap seen c.in-Whole.is) few (no_bytes c.args.rest.now (sym c.is_empty.ensures ∙ c.if-not-is_empty.false))
