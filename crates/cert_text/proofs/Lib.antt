@@ -1,1 +1,3 @@
 pub mod Joined
+pub mod Loops
+pub mod Tabled

@@ -36,10 +36,14 @@ entry_sentences say (Post decisions lines end) = says.Post ∷ (map says.Decided
 entry_sentences say (Close n k) = says.Close n k ∷ []
 entry_sentences say (Publish n decisions lines equations end) = says.Leaf n end ∷ (map says.Decided decisions ++ (map say lines ++ map says.Equation equations))
 
+-- a line by its place in a table
+abbrev pub use_of : List Line → Line → Sentence
+use_of t l = says.Use (place t l)
+
 -- how the entries say a line of a derivation: version 1 writes it out, version 2 gives its place in the table
 abbrev pub said_in : Version → Certificate → Line → Sentence
 said_in One c = says.Derived
-said_in Two c = λ l. says.Use (place (table c) l)
+said_in Two c = use_of (table c)
 
 -- the lines before the table
 abbrev pub head : Version → Certificate → List Sentence

@@ -1,5 +1,5 @@
 -- Lines that are the same are equal.
-use Rattle.std.specs.Prelude.{◌≡◌, ℕ, Bool, true, false, ◌==◌, ◌&&◌, Option, None, Some, List, refl}
+use Rattle.std.specs.Prelude.{◌≡◌, Bool, true, false, ◌&&◌, Option, None, Some, List, refl}
 use Rattle.std.proofs.Common.{sym, ◌∙◌, ap, true≢false}
 use Rattle.std.proofs.lemmas.Bool.{eqb-true, eq-eqb}
 use Rattle.std.specs.Option.{option_eq}

@@ -4,6 +4,7 @@
 mod keys;
 mod parts;
 mod sentence;
+mod tables;
 mod version;
 mod writer;
 

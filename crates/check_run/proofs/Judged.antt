@@ -15,7 +15,8 @@ use Rattle.root_input.specs.Streams.{Stream, ReadsAll, max_problem_bytes}
 use Rattle.case_history.specs.Replay.{Accepted as IsAccepted}
 use Rattle.case_history.specs.JustOne.{MeetsJustOneLeaf}
 use Rattle.check_run.specs.Verdicts.{IsJudged, IsVerdict, HasNoVerdict}
-use Rattle.check_run.specs.Outcomes.{max_certificate_bytes, Covers, Judges, IsUnjudged, has_no_verdict}
+use Rattle.check_run.specs.Inputs.{max_certificate_bytes}
+use Rattle.check_run.specs.Outcomes.{Covers, Judges, IsUnjudged, has_no_verdict}
 use Rattle.check_run.specs.declared.status.Verdict.{Verdict}
 use Rattle.check_run.specs.declared.status.Verdict.TheVariants.{Accepted, Refused}
 use Rattle.check_run.specs.declared.status.CheckStatus.{CheckStatus}

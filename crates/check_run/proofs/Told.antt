@@ -1,6 +1,6 @@
 -- What words and told bytes say of how a check ends.
-use Rattle.std.specs.Prelude.{◌≡◌, ◌≢◌, ◌⊎◌, ◌<◌, ◌≤◌, ℕ, List, length, refl}
-use Rattle.std.proofs.Common.{sym, ◌∙◌, ap, subst, inl, inr, arith}
+use Rattle.std.specs.Prelude.{◌≡◌, ◌≢◌, ◌⊎◌, ◌<◌, ◌≤◌, ℕ, true, List, [], ◌∷◌, length, refl}
+use Rattle.std.proofs.Common.{sym, ◌∙◌, ap, subst, inl, inr, arith, true≢false}
 use Rattle.field_laws.specs.Field.{Field}
 use Rattle.braid_io.specs.declared.whole.ReadStop.{ReadStop}
 use Rattle.braid_io.specs.declared.whole.ReadStop.TheVariants.{Fault, TooLong as long, OutOfMemory as no_read_memory}
@@ -24,7 +24,9 @@ use Rattle.cert_read.specs.declared.reader.CertFault.{CertFault}
 use Rattle.cert_read.specs.declared.reader.CertFault.TheVariants.{Truncated, Number, Syntax, OutOfMemory as no_text_memory}
 use Rattle.check_run.specs.Statuses.{read_status, root_status, text_status, verdict_status}
 use Rattle.check_run.specs.Verdicts.{IsJudged, IsVerdict, HasNoVerdict, no_root, no_text, no_memory}
-use Rattle.check_run.specs.Outcomes.{max_certificate_bytes, Judges, IsUnjudged, CheckEnds, stops_at_problem, stops_at_certificate, has_no_verdict, by_words, by_inputs, by_verdict, by_sink, by_memory}
+use Rattle.check_run.specs.Words.{asks_migration, AsksCheck}
+use Rattle.check_run.specs.Inputs.{max_certificate_bytes}
+use Rattle.check_run.specs.Outcomes.{Judges, IsUnjudged, CheckEnds, stops_at_problem, stops_at_certificate, has_no_verdict, by_words, by_migration, by_inputs, by_verdict, by_sink, by_memory}
 use Rattle.check_run.specs.Completeness.{GoesWell, AreShort, IsAnswer, CanBeChecked, IsVerdictOr, long_problem, long_certificate, without_verdict, with_verdict}
 use Rattle.check_run.specs.declared.status.Which.TheVariants as which
 use Rattle.check_run.specs.declared.status.Verdict.{Verdict}
@@ -127,7 +129,7 @@ certificate_unread laws source p c long short tells is = inr (long_certificate s
 certificate_unread laws source p c no_read_memory short tells is = inl refl
 
 -- where all bytes were read, they are those that were told, and so they are short
-read_short : AreOneAnswer → (limit : ℕ) (source : Stream) (bytes all : List ℕ) → Tells source bytes → ReadsAll limit source all → length bytes ≤ limit
+pub read_short : AreOneAnswer → (limit : ℕ) (source : Stream) (bytes all : List ℕ) → Tells source bytes → ReadsAll limit source all → length bytes ≤ limit
 read_short laws limit source bytes all tells reads = subst (λ (b : List ℕ). length b ≤ limit) (laws.read limit source bytes all tells reads) reads.short
 
 -- there is no verdict: for want of memory, or the bytes say why
@@ -175,22 +177,30 @@ judged_ends laws f problem certificate sink p c v well judged =
 
 -- a check that went well ends in the answer of its bytes, or for want of memory
 answered : AreOneAnswer → {E : Type 0} (f : Field E) (words : List (List ℕ)) (problem certificate sink : Stream) (p c : List ℕ) (status : CheckStatus)
-    → GoesWell problem certificate sink p c → length words ≡ 2 → CheckEnds f words problem certificate sink status → (status ≡ OutOfMemory) ⊎ IsAnswer p c status
-answered laws f words problem certificate sink p c result well two (by_words other) = absurd (other two)
+    → GoesWell problem certificate sink p c → AsksCheck words → CheckEnds f words problem certificate sink status → (status ≡ OutOfMemory) ⊎ IsAnswer p c status
+answered laws f words problem certificate sink p c result well two (by_words other) = absurd (other two.two)
+answered laws f words problem certificate sink p c result well two (by_migration status asks same is) = absurd (true≢false (sym asks ∙ two.plain))
 answered laws f words problem certificate sink p c result well two (by_inputs status same is) = unjudged_ends laws problem certificate sink p c status well is
 answered laws f words problem certificate sink p c result well two (by_verdict v same judged wrote) = inr (judged_ends laws f problem certificate sink p c v well judged)
 answered laws f words problem certificate sink p c result well two (by_sink v same judged rose wrote) = absurd (well.quiet rose)
 answered laws f words problem certificate sink p c result well two (by_memory same) = inl refl
 
+pub two_words : (words : List (List ℕ)) → asks_migration words ≡ true → length words ≡ 2
+two_words [] e = absurd (true≢false (sym e))
+two_words (w ∷ []) e = absurd (true≢false (sym e))
+two_words (w ∷ v ∷ []) e = refl
+two_words (w ∷ v ∷ u ∷ ws) e = absurd (true≢false (sym e))
+
 pub usage_ends : {E : Type 0} (f : Field E) (words : List (List ℕ)) (problem certificate sink : Stream) (status : CheckStatus) → length words ≢ 2 → CheckEnds f words problem certificate sink status → status ≡ Usage
 usage_ends f words problem certificate sink result other (by_words is) = refl
-usage_ends f words problem certificate sink result other (by_inputs status two is) = absurd (other two)
-usage_ends f words problem certificate sink result other (by_verdict v two judged wrote) = absurd (other two)
-usage_ends f words problem certificate sink result other (by_sink v two judged rose wrote) = absurd (other two)
-usage_ends f words problem certificate sink result other (by_memory two) = absurd (other two)
+usage_ends f words problem certificate sink result other (by_migration status asks same is) = absurd (other (two_words words asks))
+usage_ends f words problem certificate sink result other (by_inputs status two is) = absurd (other two.two)
+usage_ends f words problem certificate sink result other (by_verdict v two judged wrote) = absurd (other two.two)
+usage_ends f words problem certificate sink result other (by_sink v two judged rose wrote) = absurd (other two.two)
+usage_ends f words problem certificate sink result other (by_memory two) = absurd (other two.two)
 
 pub answer_ends : AreOneAnswer → {E : Type 0} (f : Field E) (words : List (List ℕ)) (problem certificate sink : Stream) (p c : List ℕ) (asked status : CheckStatus)
-    → GoesWell problem certificate sink p c → length words ≡ 2 → IsAnswer p c asked → CheckEnds f words problem certificate sink status → (status ≡ asked) ⊎ (status ≡ OutOfMemory)
+    → GoesWell problem certificate sink p c → AsksCheck words → IsAnswer p c asked → CheckEnds f words problem certificate sink status → (status ≡ asked) ⊎ (status ≡ OutOfMemory)
 answer_ends laws f words problem certificate sink p c asked status well two is ends =
     elim (answered laws f words problem certificate sink p c status well two ends) [ inl e ↦ inr e | inr found ↦ inl (one_answer laws p c status asked found is) ]
 
@@ -221,6 +231,6 @@ checked_ends laws p c root checked result can (with_verdict v short is) =
     verdict_says laws root checked v (subst (λ (d : Checked). IsJudged root d v) checked_is (subst (λ (r : RootEquations). IsJudged r is.checked v) root_is is.judged))
 
 pub verdict_ends : AreOneAnswer → {E : Type 0} (f : Field E) (words : List (List ℕ)) (problem certificate sink : Stream) (p c : List ℕ) (root : RootEquations) (checked : Checked) (status : CheckStatus)
-    → GoesWell problem certificate sink p c → length words ≡ 2 → CanBeChecked p c root checked → CheckEnds f words problem certificate sink status → IsVerdictOr root checked status
+    → GoesWell problem certificate sink p c → AsksCheck words → CanBeChecked p c root checked → CheckEnds f words problem certificate sink status → IsVerdictOr root checked status
 verdict_ends laws f words problem certificate sink p c root checked status well two can ends =
     elim (answered laws f words problem certificate sink p c status well two ends) [ inl e ↦ inr (inr e) | inr found ↦ checked_ends laws p c root checked status can found ]

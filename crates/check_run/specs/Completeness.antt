@@ -11,13 +11,16 @@ use Rattle.cert_check.specs.Accepting.{IsRefused}
 use Rattle.cert_check.specs.declared.answers.Part.{Part}
 use Rattle.cert_check.specs.declared.answers.RefuseCause.{RefuseCause}
 use Rattle.cert_text.specs.Text.{IsText}
+use Rattle.cert_read.specs.Faults.{IsCertFault}
+use Rattle.cert_read.specs.declared.reader.CertFault.{CertFault}
+use Rattle.cert_read.specs.declared.reader.CertFault.TheVariants.{OutOfMemory as no_text_memory}
 use Rattle.check_run.specs.Statuses.{verdict_status}
 use Rattle.check_run.specs.Verdicts.{AcceptsWith, IsVerdict, HasNoVerdict}
-use Rattle.check_run.specs.Outcomes.{max_certificate_bytes}
+use Rattle.check_run.specs.Inputs.{max_certificate_bytes}
 use Rattle.check_run.specs.declared.status.Which.TheVariants as which
 use Rattle.check_run.specs.declared.status.Verdict.{Verdict}
 use Rattle.check_run.specs.declared.status.CheckStatus.{CheckStatus}
-use Rattle.check_run.specs.declared.status.CheckStatus.TheVariants.{Accepted, TooLong, Refused, OutOfMemory}
+use Rattle.check_run.specs.declared.status.CheckStatus.TheVariants.{Accepted, Migrated, TooLong, Certificate as fault_of, Refused, OutOfMemory}
 
 -- both sources told their bytes, and no read and no write failed
 pub record GoesWell (problem certificate sink : Stream) (problem_bytes certificate_bytes : List ℕ) : Type 0 where
@@ -67,3 +70,17 @@ pub record SaysRefused (root : RootEquations) (checked : Certificate) (status : 
 -- the status says whether the certificate is accepted, or memory could not be had
 abbrev pub IsVerdictOr : RootEquations → Certificate → CheckStatus → Type 0
 IsVerdictOr root checked status = SaysAccepted root checked status ⊎ SaysRefused root checked status ⊎ (status ≡ OutOfMemory)
+
+-- the certificate's source told its bytes, and no read of it and no write failed
+pub record MigratesWell (certificate sink : Stream) (bytes : List ℕ) : Type 0 where
+  pub tells : TellsAll certificate bytes
+  pub quiet : ¬ Rose sink.faults_before sink.faults_after
+
+-- What a certificate's bytes are answered in a migration, where nothing fails and memory can be had.
+pub data IsMigrationAnswer (bytes : List ℕ) : CheckStatus → Type 0 where
+  -- they are too long
+  too_long : max_certificate_bytes < length bytes → IsMigrationAnswer bytes (TooLong which.Certificate)
+  -- they are not, and are not the text of a certificate
+  faulty : (fault : CertFault) → length bytes ≤ max_certificate_bytes → IsCertFault bytes fault → fault ≢ no_text_memory → IsMigrationAnswer bytes (fault_of fault)
+  -- they are
+  migrates : (read : Certificate) → length bytes ≤ max_certificate_bytes → IsText bytes read → IsMigrationAnswer bytes (Migrated (length read.entries))

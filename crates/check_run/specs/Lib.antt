@@ -1,5 +1,8 @@
+pub mod Words
 pub mod Statuses
 pub mod Lines
 pub mod Verdicts
+pub mod Inputs
+pub mod Migrations
 pub mod Outcomes
 pub mod Completeness

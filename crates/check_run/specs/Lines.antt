@@ -16,7 +16,7 @@ use Rattle.check_run.specs.declared.status.Which.{Which}
 use Rattle.check_run.specs.declared.status.Which.TheVariants as which
 use Rattle.check_run.specs.declared.status.Verdict.{Verdict}
 use Rattle.check_run.specs.declared.status.CheckStatus.{CheckStatus}
-use Rattle.check_run.specs.declared.status.CheckStatus.TheVariants.{Accepted, Usage, ReadFault, TooLong, Problem, TooManyUnknowns, TooManyEquations, Certificate, Refused, WriteFault, OutOfMemory}
+use Rattle.check_run.specs.declared.status.CheckStatus.TheVariants.{Accepted, Migrated, Usage, ReadFault, TooLong, Problem, TooManyUnknowns, TooManyEquations, Certificate, Refused, WriteFault, OutOfMemory}
 
 -- the word for an input
 abbrev pub which_word : Which → List ℕ
@@ -76,6 +76,7 @@ refused_text part number cause = codes "refused " ++ (part_word part ++ (codes "
 -- the line of a status, without an end of line
 abbrev pub check_text : CheckStatus → List ℕ
 check_text (Accepted leaves opens) = accepted_text leaves opens
+check_text (Migrated entries) = codes "migrated entries " ++ decimal entries
 check_text Usage = codes "usage"
 check_text (ReadFault which) = codes "read fault " ++ which_word which
 check_text (TooLong which) = codes "too long " ++ which_word which
@@ -94,6 +95,7 @@ verdict_line verdict = check_text (verdict_status verdict) ++ codes "\n"
 -- the exit status of a status
 abbrev pub exit_of : CheckStatus → ℕ
 exit_of (Accepted leaves opens) = 0
+exit_of (Migrated entries) = 0
 exit_of (Refused part number cause) = 1
 exit_of Usage = 2
 exit_of (ReadFault which) = 3

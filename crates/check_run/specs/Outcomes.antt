@@ -1,39 +1,26 @@
--- How a check ends: by the first of its stages that refuses (the words, the reading of both inputs, the problem, the root, the certificate's text), or with a verdict.
-use Rattle.std.specs.Prelude.{◌≡◌, ◌≢◌, ℕ, List, length}
+-- How a check ends: by the first of its stages that refuses (the words, the reading of both inputs, the problem, the root, the certificate's text), with a
+-- verdict, or with a certificate's text written again.
+use Rattle.std.specs.Prelude.{◌≡◌, ◌≢◌, ℕ, true, List, length}
 use Rattle.std.specs.Io.KnownBytes.{Appends}
 use Rattle.field_laws.specs.Field.{Field, AllElements}
 use Rattle.braid_io.specs.Causes.{Rose, WrotePart}
-use Rattle.braid_io.specs.declared.whole.ReadStop.{ReadStop}
 use Rattle.leaf_cert.specs.Leaves.{Meets}
 use Rattle.leaf_cert.specs.declared.certificate.Certificate.{Certificate}
 use Rattle.ring_file.specs.Problems.{Stated}
 use Rattle.root_system.specs.Solution.{Solution}
-use Rattle.root_input.specs.Streams.{Stream, ReadsAll, IsReadStop, IsUntouched, max_problem_bytes}
+use Rattle.root_input.specs.Streams.{Stream, ReadsAll, IsUntouched, max_problem_bytes}
 use Rattle.case_history.specs.JustOne.{MeetsJustOneLeaf}
-use Rattle.check_run.specs.Statuses.{read_status, verdict_status}
+use Rattle.check_run.specs.Words.{asks_migration, AsksCheck}
+use Rattle.check_run.specs.Statuses.{verdict_status}
+use Rattle.check_run.specs.Inputs.{max_certificate_bytes, IsNotRead}
+use Rattle.check_run.specs.Migrations.{MigrationEnds}
 use Rattle.check_run.specs.Lines.{verdict_line}
 use Rattle.check_run.specs.Verdicts.{IsVerdict, HasNoVerdict}
-use Rattle.check_run.specs.declared.status.Which.{Which}
 use Rattle.check_run.specs.declared.status.Which.TheVariants as which
 use Rattle.check_run.specs.declared.status.Verdict.{Verdict}
 use Rattle.check_run.specs.declared.status.Verdict.TheVariants.{Accepted}
 use Rattle.check_run.specs.declared.status.CheckStatus.{CheckStatus}
 use Rattle.check_run.specs.declared.status.CheckStatus.TheVariants.{Usage, WriteFault, OutOfMemory}
-
--- how many bytes a certificate may have
-abbrev pub max_certificate_bytes : ℕ
-max_certificate_bytes = 268435456
-
--- how many bytes an input may have
-abbrev pub max_bytes : Which → ℕ
-max_bytes which.Problem = max_problem_bytes
-max_bytes which.Certificate = max_certificate_bytes
-
--- why an input was not read to its end, as a status
-pub record IsNotRead (which : Which) (source : Stream) (status : CheckStatus) : Type 0 where
-  pub stop : ReadStop
-  pub is : IsReadStop (max_bytes which) source stop
-  pub status_is : status ≡ read_status which stop
 
 -- in the field an assignment is a solution of the problem exactly if it meets a leaf of the certificate, and then it meets just one
 abbrev pub Covers : {E : Type 0} → Field E → Stated → Certificate → Type 0
@@ -64,13 +51,15 @@ pub data IsUnjudged (problem certificate : Stream) : CheckStatus → Type 0 wher
 pub data CheckEnds {E : Type 0} (f : Field E) (words : List (List ℕ)) (problem certificate sink : Stream) : CheckStatus → Type 0 where
   -- there are not two words
   by_words : length words ≢ 2 → CheckEnds f words problem certificate sink Usage
-  -- there are two, and the inputs get no verdict
-  by_inputs : (status : CheckStatus) → length words ≡ 2 → IsUnjudged problem certificate status → CheckEnds f words problem certificate sink status
+  -- there are two that ask for a migration, and then the problem is untouched
+  by_migration : (status : CheckStatus) → asks_migration words ≡ true → IsUntouched problem → MigrationEnds certificate sink status → CheckEnds f words problem certificate sink status
+  -- there are two that ask for a check, and the inputs get no verdict
+  by_inputs : (status : CheckStatus) → AsksCheck words → IsUnjudged problem certificate status → CheckEnds f words problem certificate sink status
   -- they get one, and its whole line was written
-  by_verdict : (verdict : Verdict) → length words ≡ 2 → Judges f problem certificate verdict → Appends sink.before sink.after (verdict_line verdict)
+  by_verdict : (verdict : Verdict) → AsksCheck words → Judges f problem certificate verdict → Appends sink.before sink.after (verdict_line verdict)
       → CheckEnds f words problem certificate sink (verdict_status verdict)
   -- a write failed, and a proper prefix of the line was written
-  by_sink : (verdict : Verdict) → length words ≡ 2 → Judges f problem certificate verdict → Rose sink.faults_before sink.faults_after
+  by_sink : (verdict : Verdict) → AsksCheck words → Judges f problem certificate verdict → Rose sink.faults_before sink.faults_after
       → WrotePart sink.before sink.after (verdict_line verdict) → CheckEnds f words problem certificate sink WriteFault
   -- memory for the line could not be had
-  by_memory : length words ≡ 2 → CheckEnds f words problem certificate sink OutOfMemory
+  by_memory : AsksCheck words → CheckEnds f words problem certificate sink OutOfMemory

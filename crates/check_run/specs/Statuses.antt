@@ -10,7 +10,7 @@ use Rattle.check_run.specs.declared.status.Which.{Which}
 use Rattle.check_run.specs.declared.status.Verdict.{Verdict}
 use Rattle.check_run.specs.declared.status.Verdict.TheVariants as verdict
 use Rattle.check_run.specs.declared.status.CheckStatus.{CheckStatus}
-use Rattle.check_run.specs.declared.status.CheckStatus.TheVariants.{Accepted, ReadFault, TooLong, Problem, TooManyUnknowns, TooManyEquations, Certificate, Refused, WriteFault, OutOfMemory}
+use Rattle.check_run.specs.declared.status.CheckStatus.TheVariants.{Accepted, Migrated, ReadFault, TooLong, Problem, TooManyUnknowns, TooManyEquations, Certificate, Refused, WriteFault, OutOfMemory}
 
 -- where one of the sources was not read to its end
 abbrev pub read_status : Which → ReadStop → CheckStatus
@@ -35,9 +35,10 @@ abbrev pub verdict_status : Verdict → CheckStatus
 verdict_status (verdict.Accepted leaves opens) = Accepted leaves opens
 verdict_status (verdict.Refused part number cause) = Refused part number cause
 
--- something of a verdict's line may have been written
+-- something of a verdict's line or of a text may have been written
 abbrev pub may_write : CheckStatus → Bool
 may_write (Accepted leaves opens) = true
+may_write (Migrated entries) = true
 may_write (Refused part number cause) = true
 may_write WriteFault = true
 may_write status = false

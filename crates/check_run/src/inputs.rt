@@ -2,7 +2,7 @@
 
 ghost use Rattle.std.specs.Prelude.{◌≡◌, MatchResult};
 ghost use Rattle.root_input.specs.Streams.{ReadsAll, TakesSome, between};
-ghost use Rattle.check_run.specs.Outcomes.{max_bytes, IsNotRead};
+ghost use Rattle.check_run.specs.Inputs.{max_bytes, IsNotRead};
 
 use crate::status::{CheckStatus, Which};
 use braid_io::{ReadStop, Source};

@@ -1,9 +1,10 @@
-//! The whole of a check: from the bytes of a problem and of a certificate to the line of the verdict.
+//! The whole of a check: from the bytes of a problem and of a certificate to the line of the verdict. Or a certificate's text is written again in version 2.
 #![tactic(auto)]
 
 mod inputs;
 pub mod laws;
 mod lines;
+mod migrating;
 mod status;
 mod top;
 mod verdict;

@@ -18,6 +18,7 @@ pub fn check_line(alloc: Global, status: &CheckStatus) -> Result<String, AllocEr
         CheckStatus::Accepted { leaves, opens } => {
             format!(in alloc; "accepted leaves {leaves} open {opens}")
         }
+        CheckStatus::Migrated { entries } => format!(in alloc; "migrated entries {entries}"),
         CheckStatus::Usage => String::from_str(alloc, "usage"),
         CheckStatus::ReadFault(which) => {
             let word = which_word(*which);

@@ -41,6 +41,10 @@ pub enum CheckStatus {
         leaves: u64,
         opens: u64,
     },
+    /// The certificate's text in version 2 was written; `entries` counts its entries.
+    Migrated {
+        entries: u64,
+    },
     /// There were not two words, and nothing was read.
     Usage,
     /// A read of this input failed, with no more bytes before than it may have.
@@ -65,7 +69,7 @@ pub enum CheckStatus {
         number: u64,
         cause: RefuseCause,
     },
-    /// A write failed; a proper prefix of the verdict's line was written, so not all of it.
+    /// A write failed; a proper prefix of the verdict's line, or of the text, was written, so not all of it.
     WriteFault,
     /// Memory could not be had.
     OutOfMemory,
@@ -128,7 +132,7 @@ pub fn check_exit(status: &CheckStatus) -> u8
     ensures { result ≡ exit_of status.now }
 {
     match status {
-        CheckStatus::Accepted { .. } => 0,
+        CheckStatus::Accepted { .. } | CheckStatus::Migrated { .. } => 0,
         CheckStatus::Refused { .. } => 1,
         CheckStatus::Usage => 2,
         CheckStatus::ReadFault(_) => 3,

@@ -16,7 +16,8 @@ use Rattle.case_history.specs.Counts.{leaf_count, open_count}
 use Rattle.legal_history.specs.Legal.{IsLegal, IsSerial}
 use Rattle.legal_history.specs.Tree.{AreTreeLeaves}
 use Rattle.case_ledger.specs.Board.{IsCertificate}
-use Rattle.cert_text.specs.Sentences.{certificate_text}
+use Rattle.cert_text.specs.declared.version.Version.TheVariants.{Two}
+use Rattle.cert_text.specs.Sentences.{text_in}
 use Rattle.cert_text.specs.Text.{Fits}
 use Rattle.cert_summary.specs.Summary.{summary_text}
 use Rattle.root_input.specs.Streams.{Stream}
@@ -45,9 +46,9 @@ pub record IsSearched (root : RootEquations) (budget workers : ℕ) (history : L
   pub accepted : Accepted root.unknowns root.equations certificate
   pub tree : AreTreeLeaves root.equations budget history
 
--- what is written of a certificate: its summary, where that is asked for, or else its text
+-- what is written of a certificate: its summary, where that is asked for, or else its text in version 2
 abbrev pub output_text : Bool → Certificate → List ℕ
-output_text summary certificate = if summary then summary_text certificate else certificate_text certificate
+output_text summary certificate = if summary then summary_text certificate else text_in Two certificate
 
 -- What a run with a certificate says in the field: of the settings that the words ask for, the problem and its root, the history of the search and its
 -- certificate, with so many leaves, of which so many are open.

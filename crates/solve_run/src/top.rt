@@ -1,7 +1,8 @@
 //! The run.
 
-ghost use Rattle.std.specs.Prelude.{◌≡◌, ℕ, true, false, is_some, map, string_bytes, IfOk};
-ghost use Rattle.cert_text.specs.Numbers.{HasNumbersInRange};
+ghost use Rattle.std.specs.Prelude.{◌≡◌, ◌≤◌, ℕ, length, true, false, is_some, map, string_bytes, IfOk};
+ghost use Rattle.cert_text.specs.Tables.{table};
+ghost use Rattle.cert_text.specs.Numbers.{max_number, HasNumbersInRange};
 ghost use Rattle.root_input.specs.Streams.{TakesSome, between};
 ghost use Rattle.run_words.specs.Words.{IsSettings};
 ghost use Rattle.solve_run.specs.Statuses.{may_write};
@@ -33,7 +34,7 @@ use steal_workers::Gate;
 /// After these and after `OutOfMemory` nothing was written. `Done` and `Open` come exactly where the whole text or summary was written, and `WriteFault`
 /// where a write failed and only a proper prefix of it was written.
 ///
-/// The text that was written is that of the certificate, all of whose numbers are in the ranges that a text may have. On one
+/// The text that was written is that of the certificate in version 2, and all its numbers are in the ranges that a text may have. On one
 /// worker it is the certificate of the search that always settles the least pending case next; several settle cases in the order in which they take
 /// turns. In the field, and so in every field of characteristic zero, an assignment is a solution of the
 /// problem exactly if it meets a leaf of the certificate, and then it meets just one. After every status the bytes left are a suffix of those left before.
@@ -82,6 +83,7 @@ pub fn run<F: CharZeroField, R: Threads + Wait + Sync, S: Source, K: Sink, G: Ga
 fn output_of(alloc: Global, summary: bool, certificate: &Certificate) -> Result<Vec<u8>, AllocError>
     ensures text { IfOk result (λ v. v.items ≡ output_text summary certificate.now) }
     ensures numbers { IfOk result (λ _. summary ≡ false → HasNumbersInRange certificate.now) }
+    ensures lines { IfOk result (λ _. summary ≡ false → length (table certificate.now) ≤ max_number) }
 {
     if summary {
         return write_summary(alloc, certificate);

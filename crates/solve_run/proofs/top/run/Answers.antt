@@ -30,7 +30,7 @@ returns-in-Ok-write_all_of-clause-ends g c =
     let found = c.in-Ok-certificate_of.ensures in
     let searched = found.searched in
     let certificate = c.in-Ok-certificate_of.certificate in
-    let fits : settings.summary ≡ false → Fits certificate = λ plain. record { head = found.head; numbers = c.in-Ok-output_of.ensures.numbers plain; variables = found.variables } in
+    let fits : settings.summary ≡ false → Fits certificate = λ plain. record { head = found.head; numbers = c.in-Ok-output_of.ensures.numbers plain; variables = found.variables; lines = c.in-Ok-output_of.ensures.lines plain } in
     let before = g.K.Sink.written c.args.sink.now in
     let after = g.K.Sink.written c.write_all_of.new.sink in
     let written = subst (λ (text : List ℕ). Appends before after text) (c.deref.ensures.value ∙ c.in-Ok-output_of.ensures.text) c.in-Ok-write_all_of.ensures.all in
@@ -51,7 +51,7 @@ returns-clause-ends g c =
     let found = c.in-Ok-certificate_of.ensures in
     let searched = found.searched in
     let certificate = c.in-Ok-certificate_of.certificate in
-    let fits : settings.summary ≡ false → Fits certificate = λ plain. record { head = found.head; numbers = c.in-Ok-output_of.ensures.numbers plain; variables = found.variables } in
+    let fits : settings.summary ≡ false → Fits certificate = λ plain. record { head = found.head; numbers = c.in-Ok-output_of.ensures.numbers plain; variables = found.variables; lines = c.in-Ok-output_of.ensures.lines plain } in
     let before = g.K.Sink.written c.args.sink.now in
     let after = g.K.Sink.written c.write_all_of.new.sink in
     let failed = c.in-Err-write_all_of.ensures in
