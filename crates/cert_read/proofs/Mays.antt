@@ -224,7 +224,7 @@ pub record SomeLine (st : State) (k : Kind) : Type 0 where
   pub fits : (u : ℕ) → FitsSentence u said
   pub keeps : unknowns (next st said) ≡ unknowns st
 
-pub some : (st : State) (s : Sentence) → next st s ≢ Wrong → ((u : ℕ) → FitsSentence u s) → unknowns (next st s) ≡ unknowns st → SomeLine st (kind_of s)
+some : (st : State) (s : Sentence) → next st s ≢ Wrong → ((u : ℕ) → FitsSentence u s) → unknowns (next st s) ≡ unknowns st → SomeLine st (kind_of s)
 some st s live fits keeps = record { said = s; kind_is = refl; live = live; fits = fits; keeps = keeps }
 
 zero_poly : IsPoly []
