@@ -178,9 +178,9 @@ version_at Wrong = One
 abbrev empty : ℕ → ℕ → ℕ → Certificate
 empty u e b = record { unknowns = u; equations = e; budget = b; entries = [] }
 
-short_table : (w : Wording) (u : ℕ) (h : Head) (ss : List Sentence) (used : ℕ) (es : List RawEntry) (o : Open) → AllFit u (printed (Listing h w used es o)) → IsTableShort w
-short_table InFull u h ss used es o f = tt
-short_table (ByPlace t) u h ss used es o f = f.1.1.1.1.0
+short_table : (w : Wording) (u : ℕ) (h : Head) (used : ℕ) (es : List RawEntry) (o : Open) → AllFit u (printed (Listing h w used es o)) → IsTableShort w
+short_table InFull u h used es o f = tt
+short_table (ByPlace t) u h used es o f = f.1.1.1.1.0
 
 pub live : (st : State) → st ≢ Wrong → IsSound st → AllFit (unknowns st) (printed st) → weight st + 2 ≤ max_number → Completed (version_at st) st
 live AtStart ok s f few = record {
@@ -248,9 +248,9 @@ live (AtLines h) ok s f few = record {
   short = λ e. absurd (cc);
 }
 live (InTable h size t) ok s f few = table_there h size t s.0 s.1 f.1.1.1.1.0
-live (Listing h w used es Nothing) ok s f few = listing_live h w used es Nothing s (short_table w h.unknowns h [] used es Nothing f) few
-live (Listing h w used es (InPost ds ls)) ok s f few = listing_live h w used es (InPost ds ls) s (short_table w h.unknowns h [] used es (InPost ds ls) f) (omega (arith, few))
-live (Listing h w used es (InLeaf n end ds ls ps)) ok s f few = listing_live h w used es (InLeaf n end ds ls ps) s (short_table w h.unknowns h [] used es (InLeaf n end ds ls ps) f) (omega (arith, few))
+live (Listing h w used es Nothing) ok s f few = listing_live h w used es Nothing s (short_table w h.unknowns h used es Nothing f) few
+live (Listing h w used es (InPost ds ls)) ok s f few = listing_live h w used es (InPost ds ls) s (short_table w h.unknowns h used es (InPost ds ls) f) (omega (arith, few))
+live (Listing h w used es (InLeaf n end ds ls ps)) ok s f few = listing_live h w used es (InLeaf n end ds ls ps) s (short_table w h.unknowns h used es (InLeaf n end ds ls ps) f) (omega (arith, few))
 live (Whole v c) ok s f few = record { certificate = c; more = []; leads = refl; unknowns_are = refl; fits = tt; short = λ e. omega arith }
 live Wrong ok s f few = absurd (ok refl)
 

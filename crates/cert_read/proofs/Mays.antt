@@ -224,7 +224,7 @@ pub record SomeLine (st : State) (k : Kind) : Type 0 where
   pub fits : (u : ℕ) → FitsSentence u said
   pub keeps : unknowns (next st said) ≡ unknowns st
 
-pub some : (st : State) (s : Sentence) → next st s ≢ Wrong → ((u : ℕ) → FitsSentence u s) → unknowns (next st s) ≡ unknowns st → SomeLine st (kind_of s)
+some : (st : State) (s : Sentence) → next st s ≢ Wrong → ((u : ℕ) → FitsSentence u s) → unknowns (next st s) ≡ unknowns st → SomeLine st (kind_of s)
 some st s live fits keeps = record { said = s; kind_is = refl; live = live; fits = fits; keeps = keeps }
 
 zero_poly : IsPoly []
@@ -287,23 +287,23 @@ post_some h w used es ds ls kind.Use e n = absurd (cc)
 post_some h w used es ds ls k e n = absurd (cc)
 
 leaf_some : (h : Head) (w : Wording) (used : ℕ) (es : List RawEntry) (n : ℕ) (end : LeafEnd) (ds : List Decision) (ls : List Line) (ps : List (List Term)) (k : Kind) → may_leaf w used ls ps k ≡ true → is_use k ≡ false → length es + 1 ≤ max_number → SomeLine (Listing h w used es (InLeaf n end ds ls ps)) k
-leaf_some h w used es n end ds [] [] kind.Decided e n2 few = some (Listing h w used es (InLeaf n end ds [] [])) (says.Decided some_decision) (λ w. cc) decision_fits refl
-leaf_some h w used es n end ds [] (p ∷ ps) kind.Decided e n2 few = absurd (cc)
-leaf_some h w used es n end ds (l ∷ ls) ps kind.Decided e n2 few = absurd (cc)
-leaf_some h InFull used es n end ds ls [] kind.Derived e n2 few = some (Listing h InFull used es (InLeaf n end ds ls [])) (says.Derived some_line) (λ w. cc) line_fits refl
-leaf_some h InFull used es n end ds ls (p ∷ ps) kind.Derived e n2 few = absurd (cc)
-leaf_some h (ByPlace t) used es n end ds ls ps kind.Derived e n2 few = absurd (cc)
-leaf_some h w used es n end ds ls ps kind.Use e n2 few = absurd (cc)
-leaf_some h w used es n end ds ls ps kind.Equation e n2 few = some (Listing h w used es (InLeaf n end ds ls ps)) (says.Equation []) (λ w. cc) (λ u. (zero_poly, tt)) refl
-leaf_some h w used es n end ds ls ps kind.Split e n2 few = some (Listing h w used es (InLeaf n end ds ls ps)) (says.Split 0 []) (λ w. cc) split_fits refl
-leaf_some h w used es n end ds ls ps kind.Post e n2 few = some (Listing h w used es (InLeaf n end ds ls ps)) says.Post (λ w. cc) (λ u. tt) refl
-leaf_some h w used es n end ds ls ps kind.Close e n2 few = some (Listing h w used es (InLeaf n end ds ls ps)) (says.Close 0 0) (λ w. cc) close_fits refl
-leaf_some h w used es n end ds ls ps kind.Leaf e n2 few = some (Listing h w used es (InLeaf n end ds ls ps)) (says.Leaf 0 Triangular) (λ w. cc) leaf_fits refl
-leaf_some h w used es n end ds ls ps kind.Done e n2 few =
+leaf_some h w used es n end ds [] [] kind.Decided e not_use few = some (Listing h w used es (InLeaf n end ds [] [])) (says.Decided some_decision) (λ w. cc) decision_fits refl
+leaf_some h w used es n end ds [] (p ∷ ps) kind.Decided e not_use few = absurd (cc)
+leaf_some h w used es n end ds (l ∷ ls) ps kind.Decided e not_use few = absurd (cc)
+leaf_some h InFull used es n end ds ls [] kind.Derived e not_use few = some (Listing h InFull used es (InLeaf n end ds ls [])) (says.Derived some_line) (λ w. cc) line_fits refl
+leaf_some h InFull used es n end ds ls (p ∷ ps) kind.Derived e not_use few = absurd (cc)
+leaf_some h (ByPlace t) used es n end ds ls ps kind.Derived e not_use few = absurd (cc)
+leaf_some h w used es n end ds ls ps kind.Use e not_use few = absurd (cc)
+leaf_some h w used es n end ds ls ps kind.Equation e not_use few = some (Listing h w used es (InLeaf n end ds ls ps)) (says.Equation []) (λ w. cc) (λ u. (zero_poly, tt)) refl
+leaf_some h w used es n end ds ls ps kind.Split e not_use few = some (Listing h w used es (InLeaf n end ds ls ps)) (says.Split 0 []) (λ w. cc) split_fits refl
+leaf_some h w used es n end ds ls ps kind.Post e not_use few = some (Listing h w used es (InLeaf n end ds ls ps)) says.Post (λ w. cc) (λ u. tt) refl
+leaf_some h w used es n end ds ls ps kind.Close e not_use few = some (Listing h w used es (InLeaf n end ds ls ps)) (says.Close 0 0) (λ w. cc) close_fits refl
+leaf_some h w used es n end ds ls ps kind.Leaf e not_use few = some (Listing h w used es (InLeaf n end ds ls ps)) (says.Leaf 0 Triangular) (λ w. cc) leaf_fits refl
+leaf_some h w used es n end ds ls ps kind.Done e not_use few =
     let all = es ++ Publish n ds ls ps end ∷ [] in
     let l = longer es (Publish n ds ls ps end) in
     some (Listing h w used es (InLeaf n end ds ls ps)) (says.Done (length all)) (done_live h w used all e) (λ u. omega (arith, l, few)) (done_keeps h w used all e)
-leaf_some h w used es n end ds ls ps k e n2 few = absurd (cc)
+leaf_some h w used es n end ds ls ps k e not_use few = absurd (cc)
 
 start_some : (k : Kind) → is_title k ≡ true → SomeLine AtStart k
 start_some kind.Title e = some AtStart (says.Title One) (λ w. cc) (λ u. tt) refl

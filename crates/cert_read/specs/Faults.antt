@@ -46,7 +46,7 @@ pub record IsRightSomehow (before : List (List ℕ)) (kind : Kind) (u : ℕ) : T
   pub right : BeginsAs (before ++ line ∷ []) certificate
   pub unknowns : u ≡ certificate.unknowns
 
--- a derivation's line by its place stands behind a line of this kind
+-- behind a line of this kind a `use` may stand
 abbrev pub is_before_use : Kind → Bool
 is_before_use kind.Post = true
 is_before_use kind.Leaf = true

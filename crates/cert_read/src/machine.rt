@@ -2,13 +2,13 @@
 ghost use Rattle.std.specs.Prelude.{◌≡◌, ◌==◌, ◌&&◌, ◌++◌, ◌∷◌, [], if◌then◌else◌, length, IfOk};
 ghost use Rattle.cert_read.specs.Machine.{is_used_up, version_of, is_in_full, taken, taken_at, begin, in_post, in_leaf, listing, at_start, at_unknowns, at_equations, at_budget, filled, at_lines, in_table, next, certificate, may, may_begin, may_post, may_leaf, may_open, unknowns, Nothing, Listing, Whole, Wrong};
 ghost use Rattle.cert_text.specs.declared.sentence.Sentence.TheVariants as says;
-ghost use Rattle.leaf_cert.specs.declared.certificate.RawEntry.TheVariants.{Publish};
+ghost use Rattle.leaf_cert.specs.declared.certificate.RawEntry.TheVariants.{Post, Publish};
 ghost use Rattle.cert_read.specs.Seen.{seen, seen_wording, seen_used, seen_open, seen_or_wrong};
 
 use crate::table::{LineTable, copied_line};
 use cert_lines::Kind;
 use cert_text::{Sentence, Version};
-use derive_lines::{Decision, Line};
+use derive_lines::{Decision, Item, Line};
 use leaf_cert::{Certificate, LeafEnd, RawEntry, Rows};
 use sparse_poly::Poly;
 use std::alloc::{AllocError, Global};
@@ -228,6 +228,17 @@ fn by_place(wording: &mut Worded, place: u64) -> Result<Option<Line>, AllocError
     Ok(Some(line))
 }
 
+// A post with its end.
+fn ended_post(post: OpenPost, end: Item) -> RawEntry
+    ensures { result ≡ Post post.decisions.items post.lines.items end }
+{
+    RawEntry::Post {
+        decisions: Rows::of(post.decisions),
+        lines: Rows::of(post.lines),
+        end,
+    }
+}
+
 // A line of a post.
 fn in_post(
     head: Head,
@@ -259,18 +270,7 @@ fn in_post(
             };
             post.lines.push(line)?;
         }
-        Sentence::End(end) => {
-            return listed(
-                head,
-                wording,
-                entries,
-                RawEntry::Post {
-                    decisions: Rows::of(post.decisions),
-                    lines: Rows::of(post.lines),
-                    end,
-                },
-            );
-        }
+        Sentence::End(end) => return listed(head, wording, entries, ended_post(post, end)),
         _ => return Ok(None),
     }
     Ok(Some(Kept::Listing {

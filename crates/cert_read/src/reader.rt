@@ -17,13 +17,14 @@ use std::alloc::{AllocError, Global};
 /// Why bytes are not the text of a certificate.
 ///
 /// A line is ended where its LF is there. Line k, counted from 1, is right where the first k lines with their LFs are a prefix of some
-/// certificate's text.
+/// certificate's text, in version 1 or in version 2.
 #[derive(Clone, Copy, Debug, Drop, PartialEq, Eq)]
 pub enum CertFault {
     /// Every ended line is right, and no `done` line is among them.
     Truncated,
     /// Line `line` is ended, and the first that is not right. It has the form of a line that may stand there, in which numbers are of any size
-    /// and the terms and factors of a polynomial in any order, and at least one of its numbers is out of range.
+    /// and the terms and factors of a polynomial in any order, and at least one of its numbers is out of range. In version 2 a `use` may stand
+    /// where lines of a derivation stand, also if the table has no further line.
     Number { line: u64 },
     /// Line `line` is the first ended line that is not right, and is no such line; or every ended line is right, the last is a `done` line, and
     /// `line` is the number of the piece behind it.
@@ -43,7 +44,7 @@ impl From<AllocError> for CertFault {
     }
 }
 
-/// Reads the text of a certificate. Each refusal comes exactly where `CertFault` says, `OutOfMemory` where no memory is left.
+/// Reads the text of a certificate, in version 1 or in version 2. Each refusal comes exactly where `CertFault` says, `OutOfMemory` where no memory is left.
 pub fn read_certificate(alloc: Global, text: &[u8]) -> Result<Certificate, CertFault>
     ensures { MatchResult result (IsText text.now) (IsCertFault text.now) }
 {
