@@ -8,8 +8,11 @@ ghost use Rattle.cert_text.specs.Sentences.{text_in};
 ghost use Rattle.cert_text.specs.Text.{IsText};
 ghost use Rattle.cert_read.specs.Faults.{IsCertFault};
 
+pub mod laws;
+
 use cert_read::{CertFault, read_certificate};
 use cert_text::write_certificate;
+pub use laws::line_text_law;
 use std::alloc::Global;
 
 /// The text in version 2 of the certificate whose text, in either version, these bytes are. Each refusal is that of `read_certificate` on them, but that

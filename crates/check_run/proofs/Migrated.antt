@@ -1,11 +1,11 @@
 -- What words and told bytes say of how a migration ends.
-use Rattle.std.specs.Prelude.{◌≡◌, ◌≢◌, ◌⊎◌, ◌<◌, ◌≤◌, ℕ, true, List, length, refl}
+use Rattle.std.specs.Prelude.{◌≡◌, ◌⊎◌, ◌<◌, ◌≤◌, ℕ, true, List, length, refl}
 use Rattle.std.proofs.Common.{sym, ◌∙◌, ap, subst, inl, inr, arith, true≢false}
 use Rattle.field_laws.specs.Field.{Field}
 use Rattle.braid_io.specs.declared.whole.ReadStop.{ReadStop}
 use Rattle.braid_io.specs.declared.whole.ReadStop.TheVariants.{Fault, TooLong as long, OutOfMemory as no_read_memory}
 use Rattle.leaf_cert.specs.declared.certificate.Certificate.{Certificate as Read}
-use Rattle.root_input.specs.Streams.{Stream, TellsAll, ReadsAll, IsReadStop}
+use Rattle.root_input.specs.Streams.{Stream, TellsAll, IsReadStop}
 use Rattle.cert_text.specs.Text.{IsText}
 use Rattle.cert_read.specs.Faults.{IsCertFault}
 use Rattle.cert_read.specs.declared.reader.CertFault.{CertFault}
@@ -13,7 +13,7 @@ use Rattle.cert_read.specs.declared.reader.CertFault.TheVariants.{Truncated, Num
 use Rattle.check_run.specs.Words.{asks_migration}
 use Rattle.check_run.specs.Statuses.{read_status, text_status}
 use Rattle.check_run.specs.Inputs.{max_certificate_bytes}
-use Rattle.check_run.specs.Migrations.{ReadsCertificate, IsNotMigrated, MigrationEnds, not_read, not_text, by_certificate, by_text, by_fault, by_lack}
+use Rattle.check_run.specs.Migrations.{IsNotMigrated, MigrationEnds, not_read, not_text, by_certificate, by_text, by_fault, by_lack}
 use Rattle.check_run.specs.Outcomes.{CheckEnds, by_words, by_migration, by_inputs, by_verdict, by_sink, by_memory}
 use Rattle.check_run.specs.Completeness.{MigratesWell, IsMigrationAnswer, too_long, faulty, migrates}
 use Rattle.check_run.specs.declared.status.Which.TheVariants as which

@@ -1,8 +1,7 @@
-use Rattle.std.specs.Prelude.{ℕ, List, length}
-use Rattle.std.proofs.Common.{◌∙◌, ap, subst}
+use Rattle.std.specs.Prelude.{ℕ, List}
+use Rattle.std.proofs.Common.{◌∙◌, subst}
 use Rattle.std.specs.Io.KnownBytes.{Appends}
 use Rattle.braid_io.specs.Causes.{WrotePart}
-use Rattle.leaf_cert.specs.declared.certificate.RawEntry.{RawEntry}
 use Rattle.check_run.specs.Migrations.{by_certificate, by_text, by_fault, by_lack}
 use Rattle.check_run.proofs.migrating.migrate_from.Goals as goal
 

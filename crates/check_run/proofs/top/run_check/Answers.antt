@@ -4,7 +4,7 @@ use Rattle.std.proofs.lemmas.List.{length-map}
 use Rattle.std.specs.Io.KnownBytes.{Appends}
 use Rattle.braid_io.specs.Causes.{WrotePart}
 use Rattle.check_run.specs.Outcomes.{by_words, by_migration, by_inputs, by_verdict, by_sink, by_memory}
-use Rattle.check_run.proofs.Apart.{unjudged_is_no_usage, migration_is_no_usage}
+use Rattle.check_run.proofs.Apart.{unjudged_is_no_usage}
 use Rattle.check_run.proofs.top.run_check.Goals as goal
 
 pub returns-then-words-ne2-clause-ends : goal.returns-then-words-ne2-clause-ends
