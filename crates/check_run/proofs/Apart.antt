@@ -10,7 +10,6 @@ use Rattle.cert_read.specs.declared.reader.CertFault.{CertFault}
 use Rattle.cert_read.specs.declared.reader.CertFault.TheVariants.{Truncated, Number, Syntax, OutOfMemory as no_text_memory}
 use Rattle.check_run.specs.Statuses.{read_status, root_status, text_status}
 use Rattle.check_run.specs.Verdicts.{HasNoVerdict, no_root, no_text, no_memory}
-use Rattle.check_run.specs.Migrations.{IsNotMigrated, MigrationEnds, not_read, not_text, by_certificate, by_text, by_fault, by_lack}
 use Rattle.check_run.specs.Outcomes.{IsUnjudged, stops_at_problem, stops_at_certificate, has_no_verdict}
 use Rattle.check_run.specs.declared.status.Which.{Which}
 use Rattle.check_run.specs.declared.status.CheckStatus.{CheckStatus}
@@ -42,13 +41,3 @@ pub unjudged_is_no_usage : (problem certificate : Stream) (status : CheckStatus)
 unjudged_is_no_usage problem certificate result (stops_at_problem status not untouched) e = read_is_no_usage _ not.stop (sym not.status_is ∙ e)
 unjudged_is_no_usage problem certificate result (stops_at_certificate bytes status reads not) e = read_is_no_usage _ not.stop (sym not.status_is ∙ e)
 unjudged_is_no_usage problem certificate result (has_no_verdict first second status reads are none) e = none_is_no_usage first second status none e
-
-none_migrated : (certificate : Stream) (status : CheckStatus) → IsNotMigrated certificate status → status ≡ Usage → ⊥
-none_migrated certificate result (not_read status not) e = read_is_no_usage _ not.stop (sym not.status_is ∙ e)
-none_migrated certificate result (not_text bytes fault reads is) e = text_is_no_usage fault e
-
-pub migration_is_no_usage : (certificate sink : Stream) (status : CheckStatus) → MigrationEnds certificate sink status → status ≡ Usage → ⊥
-migration_is_no_usage certificate sink result (by_certificate status is) e = none_migrated certificate status is e
-migration_is_no_usage certificate sink result (by_text read reads wrote) e = cc
-migration_is_no_usage certificate sink result (by_fault read reads rose wrote) e = cc
-migration_is_no_usage certificate sink result by_lack e = cc
