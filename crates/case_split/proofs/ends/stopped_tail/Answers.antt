@@ -1,4 +1,4 @@
-use Rattle.std.proofs.Common.{rules, ◌≡◌, sym, ◌∙◌, ap}
+use Rattle.std.proofs.Common.{rules, ◌≡◌, ◌<◌, length, sym, ◌∙◌, ap, subst}
 use Rattle.std.specs.Prelude.{List}
 use Rattle.std.specs.declared.option.Option.TheVariants.{Some}
 use Rattle.sparse_poly.specs.declared.Term.{Term}
@@ -12,6 +12,11 @@ use Rattle.case_rules.specs.Ends.{IsTailStopped}
 use Rattle.case_rules.proofs.EndsBelong.{tail_checks}
 use Rattle.case_split.proofs.Running.{tail_stopped_by, tail_stopped_end}
 use Rattle.case_split.proofs.ends.stopped_tail.Goals as goal
+
+pub at-q-requires : goal.at-q-requires
+at-q-requires c =
+    let tail : IsTail c.args.case.now c.args.by c.args.i = c.move_law.ensures.can c.args.root.now c.args.case.now (Split c.args.by (Some c.args.i)) c.requires.belongs c.requires.due in
+    subst (λ es. c.args.i < length es) (sym c.equations.ensures) tail.place
 
 pub unreachable-requires : goal.unreachable-requires
 unreachable-requires c =
