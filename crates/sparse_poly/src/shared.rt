@@ -7,10 +7,18 @@ use std::marker::Model;
 use std::sync::Arc;
 
 /// A list of terms that is not copied when it has one more owner. The empty list takes no memory.
-#[derive(Drop)]
 pub struct SharedTerms {
     alloc: Global,
     terms: Option<Arc<Vec<Term>>>,
+}
+
+// Written out, so that whoever drops a polynomial does not go by cases.
+impl Drop for SharedTerms {
+    fn drop(self) {
+        let SharedTerms { alloc, terms } = self;
+        drop(terms);
+        drop(alloc);
+    }
 }
 
 impl Model for SharedTerms {
