@@ -44,14 +44,15 @@ fn end_at(
     requires { IsRootList root.now }
 {
     belongs_law();
-    let mut case = Case::root(alloc, root)?;
+    let first = Case::root(alloc, root)?;
+    let mut reached = SharedCase::of(alloc, first)?;
     for letter in path.as_bytes() {
-        let Some(branch) = branch_of(alloc, root, &case, *letter == b'z', budget)? else {
+        let Some(branch) = branch_of(alloc, root, reached.case(), *letter == b'z', budget)? else {
             return Ok(None);
         };
-        case = branch;
+        reached = branch;
     }
-    Ok(Some(run_case(alloc, root, &case, budget)?))
+    Ok(Some(run_case(alloc, root, reached.case(), budget)?))
 }
 
 // A branch of a case, where it is split.
@@ -61,7 +62,7 @@ fn branch_of(
     case: &Case,
     zero: bool,
     budget: u32,
-) -> Result<Option<Case>, AllocError>
+) -> Result<Option<SharedCase>, AllocError>
     requires root { IsRootList root.now }
     requires belongs { Belongs root.now case.now }
     requires within { case.now.moves ≤ budget }
@@ -75,8 +76,10 @@ fn branch_of(
             nonzero: other,
             ..
         } => {
-            let kept = if zero { branch } else { other };
-            Ok(Some(kept.case().copy()?))
+            if zero {
+                return Ok(Some(branch));
+            }
+            Ok(Some(other))
         }
         Outcome::Dead(_) => Ok(None),
         Outcome::Leaf(_) => Ok(None),
