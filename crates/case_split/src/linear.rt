@@ -87,7 +87,7 @@ fn other_from(case: &Case, p: u64, var: u32, from: u64) -> Option<u64>
 {
     let equations = case.equations();
     for q in from..equations.len() {
-        if contains_variable(equations.at(q), var) {
+        if equations.may_contain(q, var) && contains_variable(equations.at(q), var) {
             return Some(q);
         }
     }

@@ -63,6 +63,9 @@ fn factor_move(case: &Case) -> Option<u32>
 {
     let equations = case.equations();
     for i in 0..equations.len() {
+        if !equations.may_be_divided(i) {
+            continue;
+        }
         let Some(var) = lowest_dividing(equations.at(i)) else {
             continue;
         };

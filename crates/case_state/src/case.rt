@@ -274,7 +274,7 @@ impl Case {
         ensures { result ≡ self.now.equations }
     {
         Equations {
-            list: self.system.equations(),
+            system: &self.system,
         }
     }
 

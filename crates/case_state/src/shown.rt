@@ -1,12 +1,14 @@
 //! The parts of a case, as lists that are shown.
 
-ghost use Rattle.std.specs.Prelude.{◌≡◌, ◌<◌, IfOk, length, slice_get};
+ghost use Rattle.std.specs.Prelude.{◌≡◌, ◌<◌, ℕ, false, IfOk, length, slice_get};
 ghost use Rattle.std.specs.declared.option.Option.TheVariants.{Some};
+ghost use Rattle.sparse_poly.specs.Reads.{degree_in};
+ghost use Rattle.sparse_poly.specs.Clearing.{IsDividedBy};
 ghost use Rattle.case_rules.specs.Cases.{equation_at, polys_of};
 
 use crate::copies::{copied_decisions, polys_of};
 use case_rules::Equation;
-use case_system::CaseLines;
+use case_system::{CaseLines, System};
 use derive_lines::{Decision, Item, Line};
 use sparse_poly::Poly;
 use std::alloc::{AllocError, Global};
@@ -30,7 +32,7 @@ impl<'a> Model for Decisions<'a> {
 /// Equations with their items, seen as a list.
 #[derive(Drop)]
 pub struct Equations<'a> {
-    pub(crate) list: &'a [Equation],
+    pub(crate) system: &'a System,
 }
 
 impl<'a> Model for Equations<'a> {
@@ -39,7 +41,7 @@ impl<'a> Model for Equations<'a> {
 
     ghost Value = { List Equation };
 
-    ghost view = { λ d. d.list.now };
+    ghost view = { λ d. d.system.now.equations };
 }
 
 /// Lines, seen as a list.
@@ -94,14 +96,14 @@ impl<'a> Equations<'a> {
     pub fn len(&self) -> u64
         ensures { result ≡ length self.now }
     {
-        self.list.len() as u64
+        self.system.equations().len() as u64
     }
 
     /// Copies of all their polynomials, in ascending order. It fails only where no memory is left.
     pub fn polys(&self, alloc: Global) -> Result<Vec<Poly>, AllocError>
         ensures { IfOk result (λ v. v.items ≡ polys_of self.now) }
     {
-        polys_of(alloc, self.list)
+        polys_of(alloc, self.system.equations())
     }
 
     /// The polynomial of the equation at a place.
@@ -109,7 +111,7 @@ impl<'a> Equations<'a> {
         requires { i < length self.now }
         ensures { result.now ≡ (equation_at self.now i).poly }
     {
-        &equation(self.list, i).poly
+        &equation(self.system.equations(), i).poly
     }
 
     /// The item that is kept for the equation at a place.
@@ -117,7 +119,25 @@ impl<'a> Equations<'a> {
         requires { i < length self.now }
         ensures { result ≡ (equation_at self.now i).item }
     {
-        equation(self.list, i).item
+        equation(self.system.equations(), i).item
+    }
+
+    /// Whether a variable may occur in the equation at a place; mostly it does where this is so, and it is told without reading the polynomial.
+    #[inline(always)]
+    pub fn may_contain(&self, i: u64, var: u32) -> bool
+        requires { i < length self.now }
+        ensures { result ≡ false → degree_in var (equation_at self.now i).poly ≡ 0 }
+    {
+        self.system.may_contain(i, var)
+    }
+
+    /// Whether a variable may divide the equation at a place; mostly one does where this is so, and it is told without reading the polynomial.
+    #[inline(always)]
+    pub fn may_be_divided(&self, i: u64) -> bool
+        requires { i < length self.now }
+        ensures { result ≡ false → (v : ℕ) → IsDividedBy v (equation_at self.now i).poly → ⊥ }
+    {
+        self.system.may_be_divided(i)
     }
 }
 

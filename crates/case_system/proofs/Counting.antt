@@ -1,4 +1,4 @@
--- Counts of equations that are added, removed, stripped and cleared.
+-- Facts of equations that are added, removed, stripped and cleared.
 use Rattle.std.specs.Prelude.{◌≡◌, ◌≢◌, ◌⊎◌, ◌<◌, ◌≤◌, ℕ, zero, suc, ◌+◌, pos, List, [], ◌∷◌, ◌++◌, length, take, drop, insert, remove, replicate, slice_index_or, refl}
 use mathlib.Core.Logic.{inl, inr}
 use Rattle.std.proofs.Common.{arith, sym, ◌∙◌, subst, ap, length-append}
@@ -16,7 +16,7 @@ use Rattle.sparse_poly.specs.Units.{IsStripped}
 use Rattle.sparse_poly.proofs.Descending.{all_both}
 use Rattle.derive_lines.specs.declared.parts.Line.{Line}
 use Rattle.case_rules.specs.declared.equation.Equation.{Equation}
-use Rattle.case_rules.specs.Cases.{polys_of}
+use Rattle.case_rules.specs.Cases.{equation_at, polys_of}
 use Rattle.case_rules.specs.Kept.{added}
 use Rattle.case_rules.specs.Clearings as clearings
 use Rattle.case_rules.specs.Clearings.{Divides, IsClearing}
@@ -28,70 +28,95 @@ use Rattle.case_system.specs.declared.kept.Kept.{Kept}
 use Rattle.case_system.specs.Kept.{equations_of}
 use Rattle.case_system.proofs.BeingCleared.{AreBeingStripped, stripped_next}
 use Rattle.case_system.proofs.Placing.{take_this}
-use Rattle.case_system.specs.Clean.{IsBare, IsUndivided, IsClean, IsCleanTo, IsBareTo, AreCounted, AreClean, with_count, IsCountPlace}
+use Rattle.case_system.specs.Clean.{IsBare, IsUndivided, IsClean, IsCleanTo, IsBareTo}
+use Rattle.case_system.specs.Facts.{HasFacts, HasBareFacts, HaveFacts, with_facts, IsFactsPlace}
+use Rattle.case_system.specs.Outlines.{IsOutlineOf}
+use Rattle.case_system.specs.declared.kept.Facts.{Facts}
 
-module _ (P : List Term → ℕ → Type 0) where
-  pub counts_length : (es : List Equation) (ks : List ℕ) → AreCounted P es ks → length ks ≡ length es
-  counts_length [] [] h = refl
-  counts_length [] (k ∷ ks) h = absurd h
-  counts_length (e ∷ es) [] h = absurd h
-  counts_length (e ∷ es) (k ∷ ks) h = let rest = counts_length es ks h.1 in omega (arith, rest)
+module _ (units : List (List Term)) where
+  pub facts_length : (es : List Equation) (ks : List Facts) → HaveFacts units es ks → length ks ≡ length es
+  facts_length [] [] h = refl
+  facts_length [] (k ∷ ks) h = absurd h
+  facts_length (e ∷ es) [] h = absurd h
+  facts_length (e ∷ es) (k ∷ ks) h = let rest = facts_length es ks h.1 in omega (arith, rest)
 
-  pub counts_both : (es fs : List Equation) (ks ls : List ℕ) → es ≡ fs → ks ≡ ls → AreCounted P fs ls → AreCounted P es ks
-  counts_both es fs ks ls e f h = subst (λ es. AreCounted P es ks) (sym e) (subst (AreCounted P fs) (sym f) h)
+  pub facts_both : (es fs : List Equation) (ks ls : List Facts) → es ≡ fs → ks ≡ ls → HaveFacts units fs ls → HaveFacts units es ks
+  facts_both es fs ks ls e f h = subst (λ es. HaveFacts units es ks) (sym e) (subst (HaveFacts units fs) (sym f) h)
 
-  pub counts_removed : (es : List Equation) (ks : List ℕ) (i : ℕ) → AreCounted P es ks → AreCounted P (remove es i) (remove ks i)
-  counts_removed [] [] zero h = h
-  counts_removed [] [] (suc i) h = h
-  counts_removed [] (k ∷ ks) i h = absurd h
-  counts_removed (e ∷ es) [] i h = absurd h
-  counts_removed (e ∷ es) (k ∷ ks) zero h = h.1
-  counts_removed (e ∷ es) (k ∷ ks) (suc i) h = (h.0, counts_removed es ks i h.1)
+  pub facts_removed : (es : List Equation) (ks : List Facts) (i : ℕ) → HaveFacts units es ks → HaveFacts units (remove es i) (remove ks i)
+  facts_removed [] [] zero h = h
+  facts_removed [] [] (suc i) h = h
+  facts_removed [] (k ∷ ks) i h = absurd h
+  facts_removed (e ∷ es) [] i h = absurd h
+  facts_removed (e ∷ es) (k ∷ ks) zero h = h.1
+  facts_removed (e ∷ es) (k ∷ ks) (suc i) h = (h.0, facts_removed es ks i h.1)
 
-  pub counts_inserted : (es : List Equation) (ks : List ℕ) (i : ℕ) (e : Equation) (k : ℕ) → AreCounted P es ks → P e.poly k → AreCounted P (insert es i e) (insert ks i k)
-  counts_inserted es ks zero e k h p = (p, h)
-  counts_inserted [] [] (suc i) e k h p = (p, h)
-  counts_inserted [] (c ∷ ks) (suc i) e k h p = absurd h
-  counts_inserted (f ∷ es) [] (suc i) e k h p = absurd h
-  counts_inserted (f ∷ es) (c ∷ ks) (suc i) e k h p = (h.0, counts_inserted es ks i e k h.1 p)
+  pub facts_inserted : (es : List Equation) (ks : List Facts) (i : ℕ) (e : Equation) (k : Facts) → HaveFacts units es ks → HasFacts units e.poly k → HaveFacts units (insert es i e) (insert ks i k)
+  facts_inserted es ks zero e k h p = (p, h)
+  facts_inserted [] [] (suc i) e k h p = (p, h)
+  facts_inserted [] (c ∷ ks) (suc i) e k h p = absurd h
+  facts_inserted (f ∷ es) [] (suc i) e k h p = absurd h
+  facts_inserted (f ∷ es) (c ∷ ks) (suc i) e k h p = (h.0, facts_inserted es ks i e k h.1 p)
 
-  counts_same : (es fs : List Equation) (ks : List ℕ) → polys_of es ≡ polys_of fs → AreCounted P es ks → AreCounted P fs ks
-  counts_same [] [] ks e h = h
-  counts_same [] (f ∷ fs) ks e h = absurd (cc e)
-  counts_same (x ∷ es) [] ks e h = absurd (cc e)
-  counts_same (x ∷ es) (f ∷ fs) [] e h = absurd h
-  counts_same (x ∷ es) (f ∷ fs) (k ∷ ks) e h =
+  facts_same : (es fs : List Equation) (ks : List Facts) → polys_of es ≡ polys_of fs → HaveFacts units es ks → HaveFacts units fs ks
+  facts_same [] [] ks e h = h
+  facts_same [] (f ∷ fs) ks e h = absurd (cc e)
+  facts_same (x ∷ es) [] ks e h = absurd (cc e)
+  facts_same (x ∷ es) (f ∷ fs) [] e h = absurd h
+  facts_same (x ∷ es) (f ∷ fs) (k ∷ ks) e h =
       let same : x.poly ≡ f.poly = cc e in
       let rest : polys_of es ≡ polys_of fs = cc e in
-      (subst (λ p. P p k) same h.0, counts_same es fs ks rest h.1)
+      (subst (λ p. HasFacts units p k) same h.0, facts_same es fs ks rest h.1)
 
-  pub counts_added : (es : List Equation) (ks : List ℕ) (e : Equation) (k : ℕ) (place : Option ℕ) → HasPlace e.poly es place → AreCounted P es ks → P e.poly k → AreCounted P (added e es) (with_count place k ks)
-  counts_added es ks e k None h a p = counts_same es (added e es) ks (sym (h e refl)) a
-  counts_added es ks e k (Some i) h a p = subst (λ fs. AreCounted P fs (insert ks i k)) (sym (h.1 e refl)) (counts_inserted es ks i e k a p)
+  pub facts_added : (es : List Equation) (ks : List Facts) (e : Equation) (k : Facts) (place : Option ℕ) → HasPlace e.poly es place → HaveFacts units es ks → HasFacts units e.poly k → HaveFacts units (added e es) (with_facts place k ks)
+  facts_added es ks e k None h a p = facts_same es (added e es) ks (sym (h e refl)) a
+  facts_added es ks e k (Some i) h a p = subst (λ fs. HaveFacts units fs (insert ks i k)) (sym (h.1 e refl)) (facts_inserted es ks i e k a p)
 
-  pub counted_at : (es : List Equation) (ks : List ℕ) (i : ℕ) (e : Equation) (k : ℕ) → AreCounted P es ks → i < length es → e ≡ slice_index_or es i e → k ≡ slice_index_or ks i k → P e.poly k
-  counted_at [] ks i e k h l a b = absurd (omega (arith, l))
-  counted_at (f ∷ es) [] i e k h l a b = absurd h
-  counted_at (f ∷ es) (c ∷ ks) zero e k h l a b = subst (λ (x : Equation). P x.poly k) (sym a) (subst (λ c. P f.poly c) (sym b) h.0)
-  counted_at (f ∷ es) (c ∷ ks) (suc i) e k h l a b = counted_at es ks i e k h.1 (omega (arith, l)) a b
+  pub facts_at : (es : List Equation) (ks : List Facts) (i : ℕ) (e : Equation) (k : Facts) → HaveFacts units es ks → i < length es → e ≡ slice_index_or es i e → k ≡ slice_index_or ks i k → HasFacts units e.poly k
+  facts_at [] ks i e k h l a b = absurd (omega (arith, l))
+  facts_at (f ∷ es) [] i e k h l a b = absurd h
+  facts_at (f ∷ es) (c ∷ ks) zero e k h l a b = subst (λ (x : Equation). HasFacts units x.poly k) (sym a) (subst (λ c. HasFacts units f.poly c) (sym b) h.0)
+  facts_at (f ∷ es) (c ∷ ks) (suc i) e k h l a b = facts_at es ks i e k h.1 (omega (arith, l)) a b
 
-pub count_place : (es : List Equation) (ks : List ℕ) (p : List Term) (place : Option ℕ) → HasPlace p es place → length ks ≡ length es → IsCountPlace place ks
-count_place es ks p None h e = tt
-count_place es ks p (Some i) h e = let l = h.0 in omega (arith, l, e)
+  pub facts_of : (es : List Equation) (ks : List Facts) (i : ℕ) (k : Facts) → HaveFacts units es ks → i < length es → k ≡ slice_index_or ks i k → HasFacts units (equation_at es i).poly k
+  facts_of [] ks i k h l b = absurd (omega (arith, l))
+  facts_of (f ∷ es) [] i k h l b = absurd h
+  facts_of (f ∷ es) (c ∷ ks) zero k h l b = subst (λ c. HasFacts units f.poly c) (sym b) h.0
+  facts_of (f ∷ es) (c ∷ ks) (suc i) k h l b = facts_of es ks i k h.1 (omega (arith, l)) b
 
--- counts of 0 say nothing
-pub zeros_clean : (units : List (List Term)) (es : List Equation) → AreClean units es (replicate (length es) 0)
-zeros_clean units [] = tt
-zeros_clean units (e ∷ es) = (record { within = omega arith; clean = λ n. absurd (n refl) }, zeros_clean units es)
+pub facts_place : (es : List Equation) (fs : List Facts) (p : List Term) (place : Option ℕ) → HasPlace p es place → length fs ≡ length es → IsFactsPlace place fs
+facts_place es fs p None h e = tt
+facts_place es fs p (Some i) h e = let l = h.0 in omega (arith, l, e)
+
+-- a count of 0 says nothing
+pub clean_to_none : (units : List (List Term)) (p : List Term) (k : ℕ) → k ≡ 0 → IsCleanTo units p k
+clean_to_none units p k e = record { within = omega (arith, e); clean = λ n. absurd (n e) }
+
+pub new_facts : (units : List (List Term)) (p : List Term) (f : Facts) → f.clean ≡ 0 → IsOutlineOf p f.outline → HasFacts units p f
+new_facts units p f e o = record { clean = clean_to_none units p f.clean e; outline = o }
+
+-- a new equation has its facts
+pub new_known : (units : List (List Term)) (e : Equation) (k : Kept) → k.equation ≡ e → k.facts.clean ≡ 0 → IsOutlineOf e.poly k.facts.outline → HasFacts units k.equation.poly k.facts
+new_known units e k s z o = subst (λ (x : Equation). HasFacts units x.poly k.facts) (sym s) (new_facts units e.poly k.facts z o)
+
+-- the facts of one more equation
+pub one_more_known : (units : List (List Term)) (es : List Equation) (fs : List Facts) (e : Equation) (f : Facts) → HaveFacts units es fs → HasFacts units e.poly f → HaveFacts units (es ++ e ∷ []) (fs ++ f ∷ [])
+one_more_known units [] [] e f h k = (k, tt)
+one_more_known units [] (g ∷ fs) e f h k = absurd h
+one_more_known units (d ∷ es) [] e f h k = absurd h
+one_more_known units (d ∷ es) (g ∷ fs) e f h k = (h.0, one_more_known units es fs e f h.1 k)
 
 -- what is clean under the first conditions is so where there are more
-pub clean_more : (units more : List (List Term)) (es : List Equation) (ks : List ℕ) → AreClean units es ks → AreClean (units ++ more) es ks
+pub clean_more : (units more : List (List Term)) (es : List Equation) (fs : List Facts) → HaveFacts units es fs → HaveFacts (units ++ more) es fs
 clean_more units more [] [] h = h
-clean_more units more [] (k ∷ ks) h = absurd h
+clean_more units more [] (f ∷ fs) h = absurd h
 clean_more units more (e ∷ es) [] h = absurd h
-clean_more units more (e ∷ es) (k ∷ ks) h =
-    let within = h.0.within in
-    (record { within = omega (arith, within, length-append units more); clean = λ n. subst (λ us. IsClean us e.poly) (sym (take-append-le k units more within)) (h.0.clean n) }, clean_more units more es ks h.1)
+clean_more units more (e ∷ es) (f ∷ fs) h =
+    let within = h.0.clean.within in
+    (record {
+       clean = record { within = omega (arith, within, length-append units more); clean = λ n. subst (λ us. IsClean us e.poly) (sym (take-append-le f.clean units more within)) (h.0.clean.clean n) };
+       outline = h.0.outline;
+     }, clean_more units more es fs h.1)
 
 -- what a strip leaves is bare, and what is bare is left by it
 pub stripped_bare : (units : List (List Term)) (p m r : List Term) → IsStripped units p m r → IsBare units r
@@ -164,8 +189,11 @@ first_undivided units p (suc k) c = (c.clean (λ e. absurd (omega (arith, e)))).
 pub same_bare : (units : List (List Term)) (p m r : List Term) (k : ℕ) → IsStripped units p m r → r ≡ p → IsCleanTo units p k → IsBareTo units r k
 same_bare units p m r k s e c = record { within = c.within; bare = stripped_bare units p m r s; undivided = subst (λ q. IsUndivided (take k units) q) (sym e) (first_undivided units p k c) }
 
-pub fresh_bare : (units : List (List Term)) (p : List Term) → IsBare units p → IsBareTo units p 0
-fresh_bare units p b = record { within = omega arith; bare = b; undivided = none_divides p }
+fresh_bare : (units : List (List Term)) (p : List Term) (k : ℕ) → k ≡ 0 → IsBare units p → IsBareTo units p k
+fresh_bare units p k e b = subst (IsBareTo units p) (sym e) (record { within = omega arith; bare = b; undivided = none_divides p })
+
+pub new_bare : (units : List (List Term)) (e : Equation) (k : Kept) → k.equation ≡ e → k.facts.clean ≡ 0 → IsOutlineOf e.poly k.facts.outline → IsBare units e.poly → HasBareFacts units k.equation.poly k.facts
+new_bare units e k s z o b = subst (λ (x : Equation). HasBareFacts units x.poly k.facts) (sym s) (record { bare = fresh_bare units e.poly k.facts.clean z b; outline = o })
 
 -- conditions that do not divide are passed by
 passed_by : (older ns : List (List Term)) (k : ℕ) (e : Equation) (ls : List Line) (f : Equation) → IsUndivided older e.poly → IsClearing ns k e ls f → IsClearing (older ++ ns) k e ls f
@@ -196,6 +224,9 @@ none_more : (before now more : List Line) → now ≡ before ++ more → length 
 none_more before now [] e l = refl
 none_more before now (x ∷ xs) e l = absurd (omega (arith, l, ap length e, length-append before (x ∷ xs)))
 
+pub same_equation : (ns : List (List Term)) (before : List Line) (e : Equation) (now : List Line) (f : Equation) → IsClearedBy ns before e now f → length now ≤ length before → f ≡ e
+same_equation ns before e now f c l = (no_line ns (length before) e c.more f (none_more before now c.more c.is l) c.clearing).same
+
 -- what was bare and is not divided is clean under all conditions
 pub clean_to_all : (units : List (List Term)) (before : List Line) (e : Equation) (k : ℕ) (now : List Line) (f : Equation) (n : ℕ) → IsBareTo units e.poly k → IsClearedBy (drop k units) before e now f → length now ≤ length before → n ≡ length units → IsCleanTo units f.poly n
 clean_to_all units before e k now f n b c l z = subst (IsCleanTo units f.poly) (sym z) (record {
@@ -210,13 +241,10 @@ clean_to_all units before e k now f n b c l z = subst (IsCleanTo units f.poly) (
     each m x d (inl i) = b.undivided m x i d
     each m x d (inr i) = left.undivided m x i d
 
-pub clean_to_none : (units : List (List Term)) (p : List Term) → IsCleanTo units p 0
-clean_to_none units p = record { within = omega arith; clean = λ n. absurd (n refl) }
-
 -- one more equation is stripped
 pub stripped_kept : (units : List (List Term)) (before : List Line) (es left rest : List Equation) (e : Equation) (now next : List Line) (done : List Kept) (k : Kept) (all : List Kept) → left ≡ e ∷ rest → AreBeingStripped units before es left now (equations_of done) → IsStrippedBy units now e next k.equation → all ≡ done ++ k ∷ [] → AreBeingStripped units before es rest next (equations_of all)
 stripped_kept units before es left rest e now next done k all s b c d =
     subst (AreBeingStripped units before es rest next) (sym (ap equations_of d ∙ map-append (λ (x : Kept). x.equation) done (k ∷ []))) (stripped_next units before es left rest e now next (equations_of done) k.equation s b c)
 
-pub bare_kept : (units : List (List Term)) (done : List Kept) (k : Kept) (all : List Kept) → AllByRecursion (λ (x : Kept). IsBareTo units x.equation.poly x.clean) done → IsBareTo units k.equation.poly k.clean → all ≡ done ++ k ∷ [] → AllByRecursion (λ (x : Kept). IsBareTo units x.equation.poly x.clean) all
-bare_kept units done k all h b d = subst (AllByRecursion (λ (x : Kept). IsBareTo units x.equation.poly x.clean)) (sym d) (all_both (λ (x : Kept). IsBareTo units x.equation.poly x.clean) done (k ∷ []) h (b, tt))
+pub bare_kept : (units : List (List Term)) (done : List Kept) (k : Kept) (all : List Kept) → AllByRecursion (λ (x : Kept). HasBareFacts units x.equation.poly x.facts) done → HasBareFacts units k.equation.poly k.facts → all ≡ done ++ k ∷ [] → AllByRecursion (λ (x : Kept). HasBareFacts units x.equation.poly x.facts) all
+bare_kept units done k all h b d = subst (AllByRecursion (λ (x : Kept). HasBareFacts units x.equation.poly x.facts)) (sym d) (all_both (λ (x : Kept). HasBareFacts units x.equation.poly x.facts) done (k ∷ []) h (b, tt))

@@ -3,5 +3,7 @@ pub mod CaseLines
 pub mod Appending
 pub mod Marks
 pub mod Clean
+pub mod Outlines
+pub mod Facts
 pub mod Kept
 pub mod Systems

@@ -8,13 +8,13 @@ ghost use Rattle.case_rules.specs.Clearings.{Divides, quotient_line};
 ghost use Rattle.case_system.specs.declared.kept.Kept.{Kept};
 ghost use Rattle.case_system.specs.Appending.{Grows, IsClearedBy, IsStrippedBy, AreStrippedBy};
 ghost use Rattle.case_system.specs.CaseLines.{all_lines};
-ghost use Rattle.case_system.specs.Clean.{IsCleanTo, IsBareTo, AreClean};
+ghost use Rattle.case_system.specs.Facts.{HasFacts, HasBareFacts, HaveFacts};
 ghost use Rattle.case_system.specs.Kept.{equations_of, AreAddedCleared};
 ghost use Rattle.case_system.specs.Places.{Ascend};
 
 use crate::conditions::Conditions;
 use crate::copies::copied_equation;
-use crate::kept::{Kept, KeptList, add};
+use crate::kept::{Facts, Kept, KeptList, add};
 use crate::lines::CaseLines;
 use case_rules::Equation;
 use derive_lines::{Item, Line, Way, is_same};
@@ -101,20 +101,21 @@ pub fn clear_equation(
     kept: Kept,
     lines: &mut CaseLines,
 ) -> Result<Kept, AllocError>
-    requires { IsBareTo conditions.now kept.equation.poly kept.clean }
+    requires { HasBareFacts conditions.now kept.equation.poly kept.facts }
     ensures grows { Grows lines.old lines.new }
     ensures cleared { IfOk result (λ k. IsClearedBy conditions.now (all_lines lines.old) kept.equation (all_lines lines.new) k.equation) }
-    ensures clean { IfOk result (λ k. IsCleanTo conditions.now k.equation.poly k.clean) }
+    ensures known { IfOk result (λ k. HasFacts conditions.now k.equation.poly k.facts) }
 {
     let before = lines.len();
-    let equation = clear_from(alloc, conditions, kept.clean, kept.equation, lines)?;
+    let equation = clear_from(alloc, conditions, kept.facts.clean, kept.equation, lines)?;
     if lines.len() > before {
-        return Ok(Kept { equation, clean: 0 });
+        return Ok(Kept::new(equation));
     }
-    Ok(Kept {
-        equation,
+    let facts = Facts {
         clean: conditions.polys().len(),
-    })
+        outline: kept.facts.outline,
+    };
+    Ok(Kept { equation, facts })
 }
 
 /// Clears equations, one after the other, and adds each to those before it, at its place in the order.
@@ -124,15 +125,15 @@ pub fn clear_equations(
     stripped: Vec<Kept>,
     lines: &mut CaseLines,
 ) -> Result<KeptList, AllocError>
-    requires { AllByRecursion (λ (k : Kept). IsBareTo conditions.now k.equation.poly k.clean) stripped.items }
+    requires { AllByRecursion (λ (k : Kept). HasBareFacts conditions.now k.equation.poly k.facts) stripped.items }
     ensures cleared { IfOk result (λ l. AreAddedCleared conditions.now (all_lines lines.old) (equations_of stripped.items) (all_lines lines.new) l.equations.items) }
     ensures ascending { IfOk result (λ l. Ascend l.equations.items) }
-    ensures clean { IfOk result (λ l. AreClean conditions.now l.equations.items l.clean.items) }
+    ensures known { IfOk result (λ l. HaveFacts conditions.now l.equations.items l.facts.items) }
 {
     let mut left = VecDeque::from(stripped);
     let mut list = KeptList {
         equations: Vec::new(alloc),
-        clean: Vec::new(alloc),
+        facts: Vec::new(alloc),
     };
     'equations: while let Some(kept) = left.pop_front() {
         let cleared = clear_equation(alloc, conditions, kept, lines)?;
@@ -183,18 +184,18 @@ fn strip_equation(
     alloc: Global,
     conditions: &[Poly],
     equation: &Equation,
-    clean: usize,
+    facts: Facts,
     lines: &mut CaseLines,
 ) -> Result<Kept, AllocError>
-    requires { IsCleanTo conditions.now equation.now.poly clean }
+    requires { HasFacts conditions.now equation.now.poly facts }
     ensures stripped { IfOk result (λ k. IsStrippedBy conditions.now (all_lines lines.old) equation.now (all_lines lines.new) k.equation) }
-    ensures bare { IfOk result (λ k. IsBareTo conditions.now k.equation.poly k.clean) }
+    ensures bare { IfOk result (λ k. HasBareFacts conditions.now k.equation.poly k.facts) }
 {
     let _terms = equation.poly.terms();
-    if clean > 0 && !may_strip(conditions_from(conditions, clean), &equation.poly) {
+    if facts.clean > 0 && !may_strip(conditions_from(conditions, facts.clean), &equation.poly) {
         return Ok(Kept {
             equation: copied_equation(equation)?,
-            clean,
+            facts,
         });
     }
     let Stripped { factor, rest } = equation.poly.strip(conditions)?;
@@ -203,12 +204,11 @@ fn strip_equation(
             poly: rest,
             item: equation.item,
         };
-        return Ok(Kept { equation, clean });
+        return Ok(Kept { equation, facts });
     }
     let item = Item::Line(lines.len() as u64);
     lines.push(quotient_line(alloc, equation.item, factor, rest.copy()?)?)?;
-    let equation = Equation { poly: rest, item };
-    Ok(Kept { equation, clean: 0 })
+    Ok(Kept::new(Equation { poly: rest, item }))
 }
 
 /// Strips equations, one after the other, with a line for each that changes.
@@ -218,13 +218,13 @@ pub fn strip_equations(
     list: &KeptList,
     lines: &mut CaseLines,
 ) -> Result<Vec<Kept>, AllocError>
-    requires { AreClean conditions.now list.now.equations.items list.now.clean.items }
+    requires { HaveFacts conditions.now list.now.equations.items list.now.facts.items }
     ensures stripped { IfOk result (λ v. AreStrippedBy conditions.now (all_lines lines.old) list.now.equations.items (all_lines lines.new) (equations_of v.items)) }
-    ensures bare { IfOk result (λ v. AllByRecursion (λ (k : Kept). IsBareTo conditions.now k.equation.poly k.clean) v.items) }
+    ensures bare { IfOk result (λ v. AllByRecursion (λ (k : Kept). HasBareFacts conditions.now k.equation.poly k.facts) v.items) }
 {
     let mut stripped = Vec::with_capacity(alloc, list.equations.len())?;
     for i in 0..list.equations.len() {
-        let kept = strip_equation(alloc, conditions, &list.equations[i], list.clean[i], lines)?;
+        let kept = strip_equation(alloc, conditions, &list.equations[i], list.facts[i], lines)?;
         stripped.push(kept)?;
     }
     Ok(stripped)

@@ -27,15 +27,15 @@ fn copied_equations(alloc: Global, equations: &[Equation]) -> Result<Vec<Equatio
     Ok(copies)
 }
 
-/// Equal equations with equal counts. It fails only where no memory is left.
+/// Equal equations, of which as much is known. It fails only where no memory is left.
 pub fn copied_list(list: &KeptList) -> Result<KeptList, AllocError>
     ensures equations { IfOk result (λ l. l.equations.items ≡ list.now.equations.items) }
-    ensures clean { IfOk result (λ l. l.clean.items ≡ list.now.clean.items) }
+    ensures facts { IfOk result (λ l. l.facts.items ≡ list.now.facts.items) }
 {
     let alloc = *list.equations.allocator();
     Ok(KeptList {
         equations: copied_equations(alloc, &list.equations)?,
-        clean: list.clean.clone()?,
+        facts: list.facts.clone()?,
     })
 }
 

@@ -3,10 +3,12 @@ ghost use Rattle.std.specs.Prelude.{◌≡◌, ◌≢◌, ◌<◌, List, [], IfO
 ghost use Rattle.sparse_poly.specs.declared.Term.{Term};
 ghost use Rattle.case_rules.specs.Cases.{equation_at};
 ghost use Rattle.case_rules.specs.Kept.{older, added, item_of};
-ghost use Rattle.case_system.specs.Clean.{IsCleanTo, AreClean, with_count, IsCountPlace};
+ghost use Rattle.case_system.specs.Facts.{HasFacts, HaveFacts, with_facts, IsFactsPlace};
+ghost use Rattle.case_system.specs.Outlines.{IsOutlineOf};
 ghost use Rattle.case_system.specs.Places.{Ascend, StandsAt, GoesTo, HasPlace};
 
 use crate::exchanging::exchange;
+use crate::outline::Outline;
 use case_rules::Equation;
 use derive_lines::{Item, is_same};
 use sparse_poly::Poly;
@@ -68,59 +70,102 @@ fn add_equation(equations: &mut Vec<Equation>, equation: Equation) -> Option<u64
     }
 }
 
-// Adds a count where a new equation goes.
-fn add_count(counts: &mut Vec<usize>, place: Option<u64>, clean: usize)
-    requires room { vec_len counts.old < vec_capacity counts.old }
-    requires place { IsCountPlace place counts.old.items }
-    ensures { counts.new.items ≡ with_count place clean counts.old.items }
+// Adds facts where a new equation goes.
+fn add_facts(list: &mut Vec<Facts>, place: Option<u64>, facts: Facts)
+    requires room { vec_len list.old < vec_capacity list.old }
+    requires place { IsFactsPlace place list.old.items }
+    ensures { list.new.items ≡ with_facts place facts list.old.items }
 {
     if let Some(i) = place {
-        let Ok(()) = counts.insert(i as usize, clean) else {
+        let Ok(()) = list.insert(i as usize, facts) else {
             unreachable!()
         };
     }
 }
 
-/// An equation, and under how many of the known conditions, from the oldest on, it is known to be clean.
+/// What is known of an equation: under how many of the known conditions, from the oldest on, it is clean, and its outline.
+#[derive(Clone, Copy)]
+pub struct Facts {
+    pub clean: usize,
+    pub outline: Outline,
+}
+
+impl Facts {
+    /// The facts of a new equation, of which nothing is known but its polynomial.
+    pub fn of(poly: &Poly) -> Facts
+        ensures clean { result.clean ≡ 0 }
+        ensures outline { IsOutlineOf poly.now result.outline }
+    {
+        Facts {
+            clean: 0,
+            outline: Outline::of(poly),
+        }
+    }
+}
+
+/// An equation, and what is known of it.
 #[derive(Drop)]
 pub struct Kept {
     pub equation: Equation,
-    pub clean: usize,
+    pub facts: Facts,
 }
 
-/// Equations, and for each under how many of the known conditions, from the oldest on, it is known to be clean.
+impl Kept {
+    /// A new equation.
+    pub fn new(equation: Equation) -> Kept
+        ensures equation { result.equation ≡ equation }
+        ensures clean { result.facts.clean ≡ 0 }
+        ensures outline { IsOutlineOf equation.poly result.facts.outline }
+    {
+        let facts = Facts::of(&equation.poly);
+        Kept { equation, facts }
+    }
+}
+
+/// Equations, and what is known of each.
 #[derive(Drop)]
 pub struct KeptList {
     pub equations: Vec<Equation>,
-    pub clean: Vec<usize>,
+    pub facts: Vec<Facts>,
+}
+
+/// The facts of new equations. It fails only where no memory is left.
+pub fn new_facts(alloc: Global, equations: &[Equation]) -> Result<Vec<Facts>, AllocError>
+    ensures { IfOk result (λ v. (units : List (List Term)) → HaveFacts units equations.now v.items) }
+{
+    let mut list = Vec::with_capacity(alloc, equations.len())?;
+    for equation in equations {
+        list.push(Facts::of(&equation.poly))?;
+    }
+    Ok(list)
 }
 
 /// Adds an equation at its place in the order, and answers the place of a polynomial that is new. Zero is dropped, and of two equations with
 /// one polynomial the older item stays.
 pub fn add_in_room(list: &mut KeptList, kept: Kept) -> Option<u64>
     requires room { vec_len list.old.equations < vec_capacity list.old.equations }
-    requires count_room { vec_len list.old.clean < vec_capacity list.old.clean }
+    requires facts_room { vec_len list.old.facts < vec_capacity list.old.facts }
     requires ascending { Ascend list.old.equations.items }
-    requires counts { length list.old.clean.items ≡ length list.old.equations.items }
+    requires facts { length list.old.facts.items ≡ length list.old.equations.items }
     ensures added { list.new.equations.items ≡ added kept.equation list.old.equations.items }
     ensures place { HasPlace kept.equation.poly list.old.equations.items result }
-    ensures clean { (units : List (List Term)) → AreClean units list.old.equations.items list.old.clean.items → IsCleanTo units kept.equation.poly kept.clean → AreClean units list.new.equations.items list.new.clean.items }
+    ensures known { (units : List (List Term)) → HaveFacts units list.old.equations.items list.old.facts.items → HasFacts units kept.equation.poly kept.facts → HaveFacts units list.new.equations.items list.new.facts.items }
 {
     let place = add_equation(&mut list.equations, kept.equation);
-    add_count(&mut list.clean, place, kept.clean);
+    add_facts(&mut list.facts, place, kept.facts);
     place
 }
 
 /// The same, where room may be wanting. It fails only where no memory is left.
 pub fn add(list: &mut KeptList, kept: Kept) -> Result<(), AllocError>
     requires ascending { Ascend list.old.equations.items }
-    requires counts { length list.old.clean.items ≡ length list.old.equations.items }
+    requires facts { length list.old.facts.items ≡ length list.old.equations.items }
     ensures added { IfOk result (λ _. list.new.equations.items ≡ added kept.equation list.old.equations.items) }
     ensures ascending { Ascend list.new.equations.items }
-    ensures clean { (units : List (List Term)) → AreClean units list.old.equations.items list.old.clean.items → IsCleanTo units kept.equation.poly kept.clean → AreClean units list.new.equations.items list.new.clean.items }
+    ensures known { (units : List (List Term)) → HaveFacts units list.old.equations.items list.old.facts.items → HasFacts units kept.equation.poly kept.facts → HaveFacts units list.new.equations.items list.new.facts.items }
 {
     list.equations.reserve(1)?;
-    list.clean.reserve(1)?;
+    list.facts.reserve(1)?;
     let _place = add_in_room(list, kept);
     Ok(())
 }
@@ -146,19 +191,19 @@ fn place_beside(equations: &[Equation], q: usize, poly: &Poly) -> Option<usize>
 pub fn replace_at(list: &mut KeptList, q: usize, kept: Kept) -> Option<u64>
     requires place { q < length list.old.equations.items }
     requires ascending { Ascend list.old.equations.items }
-    requires counts { length list.old.clean.items ≡ length list.old.equations.items }
+    requires facts { length list.old.facts.items ≡ length list.old.equations.items }
     ensures added { list.new.equations.items ≡ added kept.equation (remove list.old.equations.items q) }
     ensures place { HasPlace kept.equation.poly (remove list.old.equations.items q) result }
-    ensures clean { (units : List (List Term)) → AreClean units list.old.equations.items list.old.clean.items → IsCleanTo units kept.equation.poly kept.clean → AreClean units list.new.equations.items list.new.clean.items }
+    ensures known { (units : List (List Term)) → HaveFacts units list.old.equations.items list.old.facts.items → HasFacts units kept.equation.poly kept.facts → HaveFacts units list.new.equations.items list.new.facts.items }
 {
     let Some(to) = place_beside(&list.equations, q, &kept.equation.poly) else {
         let _replaced = list.equations.remove(q);
-        let _count = list.clean.remove(q);
+        let _facts = list.facts.remove(q);
         return add_in_room(list, kept);
     };
-    let Kept { equation, clean } = kept;
+    let Kept { equation, facts } = kept;
     let _replaced = exchange(&mut list.equations, q, equation, to);
-    let _count = exchange(&mut list.clean, q, clean, to);
+    let _facts = exchange(&mut list.facts, q, facts, to);
     Some(to as u64)
 }
 

@@ -7,10 +7,12 @@ mod copies;
 mod exchanging;
 mod kept;
 mod lines;
+mod outline;
 mod system;
 
 pub use conditions::Conditions;
 pub use copies::copied_polys;
 pub use kept::item_of;
 pub use lines::{CaseLines, copied_lines};
+pub use outline::Outline;
 pub use system::System;

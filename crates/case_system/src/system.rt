@@ -1,5 +1,8 @@
 //! Equations under known conditions.
-ghost use Rattle.std.specs.Prelude.{◌≡◌, ◌<◌, [], IfOk, OnErr, length, remove};
+ghost use Rattle.std.specs.Prelude.{◌≡◌, ◌<◌, ℕ, [], false, IfOk, OnErr, length, remove};
+ghost use Rattle.sparse_poly.specs.Reads.{degree_in};
+ghost use Rattle.sparse_poly.specs.Clearing.{IsDividedBy};
+ghost use Rattle.case_rules.specs.Cases.{equation_at};
 ghost use Rattle.case_rules.specs.Kept.{added};
 ghost use Rattle.case_system.specs.Appending.{Grows};
 ghost use Rattle.case_system.specs.CaseLines.{all_lines};
@@ -9,7 +12,7 @@ ghost use Rattle.case_system.specs.Places.{Ascend};
 use crate::clearing::{clear_equation, clear_equations, strip_equations};
 use crate::conditions::Conditions;
 use crate::copies::copied_list;
-use crate::kept::{Kept, KeptList, add, replace_at};
+use crate::kept::{Kept, KeptList, add, new_facts, replace_at};
 use crate::lines::CaseLines;
 use case_rules::Equation;
 use sparse_poly::Poly;
@@ -25,13 +28,13 @@ pub struct System {
 
 impl Model for System {
     ghost use Rattle.case_system.specs.Systems.{SystemState};
-    ghost use Rattle.case_system.specs.Clean.{IsKept};
+    ghost use Rattle.case_system.specs.Facts.{IsKept};
 
     ghost Value = { SystemState };
 
     ghost view = { λ s. record { conditions = s.conditions; equations = s.list.equations.items } };
 
-    ghost invariant = { λ s. IsKept s.conditions s.list.equations.items s.list.clean.items };
+    ghost invariant = { λ s. IsKept s.conditions s.list.equations.items s.list.facts.items };
 }
 
 impl System {
@@ -42,10 +45,10 @@ impl System {
         requires { Ascend equations.items }
         ensures { IfOk result (λ s. s ≡ record { conditions = []; equations = equations.items }) }
     {
-        let clean = vec![in alloc; 0; equations.len()]?;
+        let facts = new_facts(alloc, &equations)?;
         Ok(System {
             conditions: Conditions::new(alloc),
-            list: KeptList { equations, clean },
+            list: KeptList { equations, facts },
         })
     }
 
@@ -73,13 +76,31 @@ impl System {
         &self.list.equations
     }
 
+    /// Whether a variable may occur in the equation at a place.
+    #[inline(always)]
+    pub fn may_contain(&self, i: u64, var: u32) -> bool
+        requires { i < length self.now.equations }
+        ensures { result ≡ false → degree_in var (equation_at self.now.equations i).poly ≡ 0 }
+    {
+        self.list.facts[i as usize].outline.may_contain(var)
+    }
+
+    /// Whether a variable may divide the equation at a place.
+    #[inline(always)]
+    pub fn may_be_divided(&self, i: u64) -> bool
+        requires { i < length self.now.equations }
+        ensures { result ≡ false → (v : ℕ) → IsDividedBy v (equation_at self.now.equations i).poly → ⊥ }
+    {
+        self.list.facts[i as usize].outline.may_be_divided()
+    }
+
     /// Removes the equation at a place.
     pub fn remove(&mut self, i: u64)
         requires { i < length self.old.equations }
         ensures { self.new ≡ with_equations self.old (remove self.old.equations i) }
     {
         let _removed = self.list.equations.remove(i as usize);
-        let _count = self.list.clean.remove(i as usize);
+        let _facts = self.list.facts.remove(i as usize);
     }
 
     /// Adds an equation at its place in the order. Zero is dropped, and of two equations with one polynomial the older item stays. It fails only
@@ -87,7 +108,7 @@ impl System {
     pub fn add(&mut self, equation: Equation) -> Result<(), AllocError>
         ensures { IfOk result (λ _. self.new ≡ with_equations self.old (added equation self.old.equations)) }
     {
-        add(&mut self.list, Kept { equation, clean: 0 })
+        add(&mut self.list, Kept::new(equation))
     }
 
     /// Clears an equation, which is stripped, of the known conditions, with the lines for it, and adds what is left. It fails only where no memory
@@ -101,8 +122,7 @@ impl System {
         ensures { IfOk result (λ _. IsAddedCleared self.old (all_lines lines.old) equation (all_lines lines.new) self.new) }
     {
         let alloc = lines.allocator();
-        let kept = Kept { equation, clean: 0 };
-        let rest = clear_equation(alloc, &self.conditions, kept, lines)?;
+        let rest = clear_equation(alloc, &self.conditions, Kept::new(equation), lines)?;
         add(&mut self.list, rest)
     }
 
@@ -122,8 +142,7 @@ impl System {
         ensures unchanged { OnErr result (self.new ≡ self.old) }
     {
         let alloc = lines.allocator();
-        let kept = Kept { equation, clean: 0 };
-        let rest = clear_equation(alloc, &self.conditions, kept, lines)?;
+        let rest = clear_equation(alloc, &self.conditions, Kept::new(equation), lines)?;
         Ok(replace_at(&mut self.list, q as usize, rest))
     }
 

@@ -11,6 +11,12 @@ lowest_dividing-requires c =
     let place : c.loop-i.i < count c.args.case.now = omega (arith, c.loop-i-test.true, c.loop-i.auto.i-end, c.len-i-end.ensures, ap (λ (es : List Equation). length es) c.equations-equations.ensures) in
     λ e. nonzero_at c.args.case.now c.requires c.loop-i.i place (sym same ∙ e)
 
+pub loop-i-preserved-then-not-may_be_divided : goal.loop-i-preserved-then-not-may_be_divided
+loop-i-preserved-then-not-may_be_divided c = none_more _ _ c.loop-i.invariant (λ h. none h.v h.divided)
+  where
+    none : None_has (λ v. IsDividedBy v (poly c.args.case.now c.loop-i.i))
+    none = search rules
+
 pub loop-i-preserved-in_default : goal.loop-i-preserved-in_default
 loop-i-preserved-in_default c =
     let same : c.at.result.now ≡ poly c.args.case.now c.loop-i.i = search rules in

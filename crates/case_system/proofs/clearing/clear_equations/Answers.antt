@@ -1,11 +1,11 @@
 use Rattle.std.proofs.Common.{rules, ◌≡◌, ◌∷◌, [], sym, ap, subst}
 use Rattle.std.specs.List.{AllByRecursion}
 use Rattle.case_system.specs.declared.kept.Kept.{Kept}
-use Rattle.case_system.specs.Clean.{IsCleanTo, IsBareTo, AreClean}
+use Rattle.case_system.specs.Facts.{HasBareFacts, HaveFacts}
 use Rattle.case_system.specs.Kept.{equations_of}
 use Rattle.case_system.specs.Places.{Ascend}
 use Rattle.case_system.proofs.BeingCleared.{AreBeingAdded, adding_begun, added_next, all_added_at_last}
-use Rattle.case_system.proofs.Counting.{counts_length}
+use Rattle.case_system.proofs.Counting.{facts_length}
 use Rattle.case_system.proofs.Placing.{ascend_none}
 use Rattle.case_system.specs.CaseLines.{all_lines}
 use Rattle.case_system.proofs.clearing.clear_equations.Goals as goal
@@ -15,27 +15,27 @@ equations-init c =
     let same : c.from-left.result.items ≡ c.args.stripped.items = search rules in
     let none : c.new.result.items ≡ [] = search rules in
     let no_counts : c.new-2.result.items ≡ [] = search rules in
-    let bare : AllByRecursion (λ (k : Kept). IsBareTo c.args.conditions.now k.equation.poly k.clean) c.from-left.result.items = subst (AllByRecursion (λ (k : Kept). IsBareTo c.args.conditions.now k.equation.poly k.clean)) (sym same) c.requires in
+    let bare : AllByRecursion (λ (k : Kept). HasBareFacts c.args.conditions.now k.equation.poly k.facts) c.from-left.result.items = subst (AllByRecursion (λ (k : Kept). HasBareFacts c.args.conditions.now k.equation.poly k.facts)) (sym same) c.requires in
     record {
       cleared = subst (λ ks. AreBeingAdded c.args.conditions.now (all_lines c.args.lines.now) (equations_of c.args.stripped.items) (equations_of ks) (all_lines c.args.lines.now) c.new.result.items) (sym same) (adding_begun c.args.conditions.now (all_lines c.args.lines.now) (equations_of c.args.stripped.items) c.new.result.items none);
       bare = bare;
       ascending = subst Ascend (sym none) ascend_none;
-      clean = subst (λ es. AreClean c.args.conditions.now es c.new-2.result.items) (sym none) (subst (AreClean c.args.conditions.now []) (sym no_counts) tt);
+      known = subst (λ es. HaveFacts c.args.conditions.now es c.new-2.result.items) (sym none) (subst (HaveFacts c.args.conditions.now []) (sym no_counts) tt);
     }
 
-pub add-requires-clause-counts : goal.add-requires-clause-counts
-add-requires-clause-counts c = counts_length (IsCleanTo c.args.conditions.now) c.equations.list.equations.items c.equations.list.clean.items c.equations.invariant.clean
+pub add-requires-clause-facts : goal.add-requires-clause-facts
+add-requires-clause-facts c = facts_length c.args.conditions.now c.equations.list.equations.items c.equations.list.facts.items c.equations.invariant.known
 
 pub equations-preserved : goal.equations-preserved
 equations-preserved c =
     let left : c.equations.left.items ≡ c.in-Some.kept ∷ c.pop_front.new.self.items = c.in-Some.ensures.items in
-    let bare : AllByRecursion (λ (k : Kept). IsBareTo c.args.conditions.now k.equation.poly k.clean) (c.in-Some.kept ∷ c.pop_front.new.self.items) = subst (AllByRecursion (λ (k : Kept). IsBareTo c.args.conditions.now k.equation.poly k.clean)) left c.equations.invariant.bare in
+    let bare : AllByRecursion (λ (k : Kept). HasBareFacts c.args.conditions.now k.equation.poly k.facts) (c.in-Some.kept ∷ c.pop_front.new.self.items) = subst (AllByRecursion (λ (k : Kept). HasBareFacts c.args.conditions.now k.equation.poly k.facts)) left c.equations.invariant.bare in
     record {
       cleared = added_next c.args.conditions.now (all_lines c.args.lines.now) (equations_of c.args.stripped.items) c.in-Some.kept.equation (equations_of c.pop_front.new.self.items) (all_lines c.equations.lines) (all_lines c.clear_equation.new.lines) c.equations.list.equations.items c.add.new.list.equations.items c.in_ok-cleared.cleared.equation
           (subst (λ ks. AreBeingAdded c.args.conditions.now (all_lines c.args.lines.now) (equations_of c.args.stripped.items) (equations_of ks) (all_lines c.equations.lines) c.equations.list.equations.items) left c.equations.invariant.cleared) c.in_ok-cleared.ensures.cleared c.in_ok-add.ensures.added;
       bare = bare.1;
       ascending = c.in_ok-add.ensures.ascending;
-      clean = c.in_ok-add.ensures.clean c.args.conditions.now c.equations.invariant.clean c.in_ok-cleared.ensures.clean;
+      known = c.in_ok-add.ensures.known c.args.conditions.now c.equations.invariant.known c.in_ok-cleared.ensures.known;
     }
 
 pub returns-clause-cleared : goal.returns-clause-cleared

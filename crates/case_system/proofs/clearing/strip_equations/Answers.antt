@@ -1,7 +1,6 @@
 use Rattle.std.proofs.Common.{rules, ◌<◌, length}
-use Rattle.case_system.specs.Clean.{IsCleanTo}
 use Rattle.case_system.specs.Kept.{equations_of}
-use Rattle.case_system.proofs.Counting.{counts_length, counted_at, stripped_kept, bare_kept}
+use Rattle.case_system.proofs.Counting.{facts_length, facts_at, stripped_kept, bare_kept}
 use Rattle.case_system.proofs.BeingCleared.{strips_at_last}
 use Rattle.case_system.proofs.Placing.{drop_this, drop_end}
 use Rattle.case_system.specs.CaseLines.{all_lines}
@@ -10,14 +9,14 @@ use Rattle.case_system.proofs.clearing.strip_equations.Goals as goal
 pub index-requires-in-loop-i : goal.index-requires-in-loop-i
 index-requires-in-loop-i c =
     let within : c.loop-i.i < length c.args.list.now.equations.items = search rules in
-    let long = counts_length (IsCleanTo c.args.conditions.now) c.args.list.now.equations.items c.args.list.now.clean.items c.requires in
-    let same = c.args.list.now.clean.len in
+    let long = facts_length c.args.conditions.now c.args.list.now.equations.items c.args.list.now.facts.items c.requires in
+    let same = c.args.list.now.facts.len in
     search rules
 
 pub strip_equation-requires : goal.strip_equation-requires
 strip_equation-requires c =
     let within : c.loop-i.i < length c.args.list.now.equations.items = search rules in
-    counted_at (IsCleanTo c.args.conditions.now) c.args.list.now.equations.items c.args.list.now.clean.items c.loop-i.i c.index.result.now c.index-in-loop-i.result.now c.requires within c.index.ensures c.index-in-loop-i.ensures
+    facts_at c.args.conditions.now c.args.list.now.equations.items c.args.list.now.facts.items c.loop-i.i c.index.result.now c.index-in-loop-i.result.now c.requires within c.index.ensures c.index-in-loop-i.ensures
 
 pub loop-i-preserved : goal.loop-i-preserved
 loop-i-preserved c =

@@ -1,6 +1,5 @@
-use Rattle.case_system.specs.Clean.{IsCleanTo}
-use Rattle.case_system.proofs.Counting.{counts_length}
+use Rattle.case_system.proofs.Counting.{facts_length}
 use Rattle.case_system.proofs.system.System.add_cleared.Goals as goal
 
-pub add-requires-clause-counts : goal.add-requires-clause-counts
-add-requires-clause-counts c = counts_length (IsCleanTo c.self.inside.conditions) c.self.inside.list.equations.items c.self.inside.list.clean.items c.self.invariant.clean
+pub add-requires-clause-facts : goal.add-requires-clause-facts
+add-requires-clause-facts c = facts_length c.self.inside.conditions c.self.inside.list.equations.items c.self.inside.list.facts.items c.self.invariant.known

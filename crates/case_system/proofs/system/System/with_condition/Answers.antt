@@ -2,7 +2,7 @@ use Rattle.std.proofs.Common.{◌++◌, ◌∷◌, [], sym, ◌∙◌, ap, subst
 use Rattle.std.specs.List.{AllByRecursion}
 use Rattle.case_system.specs.declared.kept.Kept.{Kept}
 use Rattle.case_system.specs.Appending.{AreClearedBy, AreStrippedBy}
-use Rattle.case_system.specs.Clean.{IsBareTo, AreClean}
+use Rattle.case_system.specs.Facts.{HasBareFacts, HaveFacts}
 use Rattle.case_system.specs.Kept.{equations_of}
 use Rattle.case_system.specs.Systems.{SystemState}
 use Rattle.case_system.proofs.Counting.{clean_more}
@@ -11,11 +11,11 @@ use Rattle.case_system.proofs.system.System.with_condition.Goals as goal
 
 pub strip_equations-requires : goal.strip_equations-requires
 strip_equations-requires c =
-    subst (λ us. AreClean us c.self.inside.list.equations.items c.self.inside.list.clean.items) (sym (c.polys.ensures ∙ c.in_ok-conditions.ensures))
-    (clean_more c.self.inside.conditions (c.args.by.now ∷ []) c.self.inside.list.equations.items c.self.inside.list.clean.items c.self.invariant.clean)
+    subst (λ us. HaveFacts us c.self.inside.list.equations.items c.self.inside.list.facts.items) (sym (c.polys.ensures ∙ c.in_ok-conditions.ensures))
+    (clean_more c.self.inside.conditions (c.args.by.now ∷ []) c.self.inside.list.equations.items c.self.inside.list.facts.items c.self.invariant.known)
 
 pub clear_equations-requires : goal.clear_equations-requires
-clear_equations-requires c = subst (λ us. AllByRecursion (λ (k : Kept). IsBareTo us k.equation.poly k.clean) c.in_ok-stripped.stripped.items) c.polys.ensures c.in_ok-stripped.ensures.bare
+clear_equations-requires c = subst (λ us. AllByRecursion (λ (k : Kept). HasBareFacts us k.equation.poly k.facts) c.in_ok-stripped.stripped.items) c.polys.ensures c.in_ok-stripped.ensures.bare
 
 pub returns : goal.returns
 returns c =
