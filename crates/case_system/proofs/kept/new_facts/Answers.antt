@@ -1,4 +1,4 @@
-use Rattle.std.proofs.Common.{◌≡◌, ◌∷◌, ◌++◌, ◌+◌, [], take, sym, ◌∙◌, subst}
+use Rattle.std.proofs.Common.{◌∷◌, ◌++◌, [], take, sym, subst}
 use Rattle.case_system.specs.Facts.{HaveFacts}
 use Rattle.case_system.proofs.Counting.{one_more_known, new_facts}
 use Rattle.case_system.proofs.Placing.{take_this}

@@ -1,4 +1,4 @@
-use Rattle.std.proofs.Common.{rules, ℕ, List, ◌≡◌, length, sym, subst, ap, ◌∙◌, refl}
+use Rattle.std.proofs.Common.{rules, List, ◌≡◌, length, sym, subst, ap, ◌∙◌, refl}
 use Rattle.std.specs.Prelude.{insert, remove}
 use Rattle.std.proofs.lemmas.List.{take_at}
 use Rattle.case_rules.specs.declared.equation.Equation.{Equation}

@@ -1,4 +1,4 @@
-use Rattle.std.proofs.Common.{ℕ, ◌≡◌, ◌<◌, ◌⊎◌, drop}
+use Rattle.std.proofs.Common.{ℕ, ◌<◌, ◌⊎◌, drop}
 use Rattle.sparse_poly.specs.Reads.{degree_in}
 use Rattle.sparse_poly.specs.Clearing.{IsDividedBy}
 use Rattle.case_system.specs.Outlines.{HasBit}

@@ -1,4 +1,4 @@
-use Rattle.std.proofs.Common.{rules, arith, ◌<◌, ◌+◌, ◌^◌, refl}
+use Rattle.std.proofs.Common.{rules, ◌+◌, refl}
 use Rattle.case_system.proofs.Joining.{all_shared, counted_more}
 use Rattle.case_system.proofs.lines.CaseLines.share.Goals as goal
 

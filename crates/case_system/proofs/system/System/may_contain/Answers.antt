@@ -1,4 +1,4 @@
-use Rattle.std.proofs.Common.{rules, ◌≡◌, ◌<◌, ℕ, length, sym, subst}
+use Rattle.std.proofs.Common.{rules, ◌≡◌, ◌<◌, length, sym, subst}
 use Rattle.sparse_poly.specs.Reads.{degree_in}
 use Rattle.case_rules.specs.Cases.{equation_at}
 use Rattle.case_system.specs.Systems.{SystemState}
