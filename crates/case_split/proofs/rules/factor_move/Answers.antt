@@ -1,7 +1,8 @@
-use Rattle.std.proofs.Common.{rules, arith, ◌≡◌, ◌<◌, ◌∙◌, sym, ap}
+use Rattle.std.proofs.Common.{rules, arith, ◌≡◌, ◌<◌, ◌∙◌, false, sym, ap, subst}
 use Rattle.std.specs.Prelude.{length, List}
 use Rattle.case_rules.specs.declared.equation.Equation.{Equation}
-use Rattle.case_rules.specs.Cases.{poly, count}
+use Rattle.sparse_poly.specs.Clearing.{IsDividedBy}
+use Rattle.case_rules.specs.Cases.{equation_at, poly, count}
 use Rattle.case_split.proofs.Due.{none_more, nonzero_at, not_divided, no_more}
 use Rattle.case_split.proofs.rules.factor_move.Goals as goal
 
@@ -12,10 +13,9 @@ lowest_dividing-requires c =
     λ e. nonzero_at c.args.case.now c.requires c.loop-i.i place (sym same ∙ e)
 
 pub loop-i-preserved-then-not-may_be_divided : goal.loop-i-preserved-then-not-may_be_divided
-loop-i-preserved-then-not-may_be_divided c = none_more _ _ c.loop-i.invariant (λ h. none h.v h.divided)
-  where
-    none : None_has (λ v. IsDividedBy v (poly c.args.case.now c.loop-i.i))
-    none = search rules
+loop-i-preserved-then-not-may_be_divided c =
+    let missing : c.may_be_divided.result ≡ false = search rules in
+    none_more _ _ c.loop-i.invariant (λ h. c.may_be_divided.ensures missing h.v (subst (λ (es : List Equation). IsDividedBy h.v (equation_at es c.loop-i.i).poly) (sym c.equations-equations.ensures) h.divided))
 
 pub loop-i-preserved-in_default : goal.loop-i-preserved-in_default
 loop-i-preserved-in_default c =
