@@ -112,11 +112,13 @@ clean_more units more [] [] h = h
 clean_more units more [] (f ∷ fs) h = absurd h
 clean_more units more (e ∷ es) [] h = absurd h
 clean_more units more (e ∷ es) (f ∷ fs) h =
-    let within = h.0.clean.within in
-    (record {
-       clean = record { within = omega (arith, within, length-append units more); clean = λ n. subst (λ us. IsClean us e.poly) (sym (take-append-le f.clean units more within)) (h.0.clean.clean n) };
-       outline = h.0.outline;
-     }, clean_more units more es fs h.1)
+    let within = h.0.clean.within in (
+      record {
+        clean = record { within = omega (arith, within, length-append units more); clean = λ n. subst (λ us. IsClean us e.poly) (sym (take-append-le f.clean units more within)) (h.0.clean.clean n) };
+        outline = h.0.outline;
+      },
+      clean_more units more es fs h.1,
+    )
 
 -- what a strip leaves is bare, and what is bare is left by it
 pub stripped_bare : (units : List (List Term)) (p m r : List Term) → IsStripped units p m r → IsBare units r

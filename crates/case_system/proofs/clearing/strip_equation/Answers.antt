@@ -26,10 +26,10 @@ returns-then-not-may_strip-clause-bare c =
     let counted : c.args.facts.clean ≢ 0 = λ e. (let more = c.if-facts-gt0.true in omega (arith, more, e)) in
     subst (λ (x : Equation). HasBareFacts c.args.conditions.now x.poly c.args.facts) (sym c.in_ok-copied_equation.ensures)
     (record {
-       bare = passed_bare c.args.conditions.now c.args.equation.now.poly c.args.facts.clean c.requires.clean counted
-       (subst (λ (ns : List (List Term)). (v : ℕ) → Contains ns (variable v) → IsDividedBy v c.args.equation.now.poly → ⊥) c.conditions_from.ensures (c.may_strip.ensures c.if-not-may_strip.true));
-       outline = c.requires.outline;
-     })
+      bare = passed_bare c.args.conditions.now c.args.equation.now.poly c.args.facts.clean c.requires.clean counted
+          (subst (λ (ns : List (List Term)). (v : ℕ) → Contains ns (variable v) → IsDividedBy v c.args.equation.now.poly → ⊥) c.conditions_from.ensures (c.may_strip.ensures c.if-not-may_strip.true));
+      outline = c.requires.outline;
+    })
 
 pub returns-then-is_same-clause-stripped : goal.returns-then-is_same-clause-stripped
 returns-then-is_same-clause-stripped c = strip_same c.args.conditions.now (all_lines c.args.lines.now) c.args.equation.now (record { poly = c.in_ok-factor.field-0.rest; item = c.args.equation.now.item }) c.in_ok-factor.field-0.factor c.in_ok-factor.ensures (c.is_same.ensures.0 c.if-is_same.true) refl
