@@ -12,21 +12,6 @@ use std::sync::Arc;
 // The most lines that may be shared, so that numbers of lines are in range.
 const MAX_SHARED: usize = usize::MAX / 2;
 
-// An equal line.
-fn copied_line(line: &Line) -> Result<Line, AllocError>
-    ensures { IfOk result (λ l. l ≡ line.now) }
-{
-    Ok(Line {
-        way: line.way,
-        from: line.from,
-        by: line.by,
-        l: line.l.copy()?,
-        a: line.a.copy()?,
-        m: line.m.copy()?,
-        made: line.made.copy()?,
-    })
-}
-
 /// Equal lines. It fails only where no memory is left.
 pub fn copied_lines(alloc: Global, lines: &[Line]) -> Result<Vec<Line>, AllocError>
     ensures { IfOk result (λ v. v.items ≡ lines.now) }
@@ -202,7 +187,7 @@ fn push_copies(lines: &[Line], into: &mut Vec<Line>) -> Result<(), AllocError>
     ensures { OnOk result (into.new.items ≡ into.old.items ++ lines.now) }
 {
     for line in lines {
-        into.push(copied_line(line)?)?;
+        into.push(line.copy()?)?;
     }
     Ok(())
 }

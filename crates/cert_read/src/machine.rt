@@ -5,7 +5,7 @@ ghost use Rattle.cert_text.specs.declared.sentence.Sentence.TheVariants as says;
 ghost use Rattle.leaf_cert.specs.declared.certificate.RawEntry.TheVariants.{Post, Publish};
 ghost use Rattle.cert_read.specs.Seen.{seen, seen_wording, seen_used, seen_open, seen_or_wrong};
 
-use crate::table::{LineTable, copied_line};
+use crate::table::LineTable;
 use cert_lines::Kind;
 use cert_text::{Sentence, Version};
 use derive_lines::{Decision, Item, Line};
@@ -221,7 +221,7 @@ fn by_place(wording: &mut Worded, place: u64) -> Result<Option<Line>, AllocError
     let Some(line) = table.line(place) else {
         return Ok(None);
     };
-    let line = copied_line(line)?;
+    let line = line.copy()?;
     if place == *used {
         *used += 1;
     }

@@ -62,18 +62,3 @@ impl LineTable {
         Some(key.line())
     }
 }
-
-/// A line once more.
-pub(crate) fn copied_line(line: &Line) -> Result<Line, AllocError>
-    ensures { IfOk result (λ l. l ≡ line.now) }
-{
-    Ok(Line {
-        way: line.way,
-        from: line.from,
-        by: line.by,
-        l: line.l.copy()?,
-        a: line.a.copy()?,
-        m: line.m.copy()?,
-        made: line.made.copy()?,
-    })
-}
