@@ -30,3 +30,4 @@ pub mod InForm
 pub mod UnitOne
 pub mod ProductSums
 pub mod Clearings
+pub mod DividedValues

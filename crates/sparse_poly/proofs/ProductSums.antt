@@ -10,28 +10,24 @@ use Rattle.monomial.specs.Monomials.{monomial_cmp, monomial_times, IsPowers}
 use Rattle.monomial.proofs.Exponents.{exponent-times, IsPowers-times, same_from_exponents}
 use Rattle.sparse_poly.specs.declared.Term.{Term}
 use Rattle.sparse_poly.specs.Polynomials.{is_of, coefficient, term_times, row, products, IsSum}
+use Rattle.sparse_poly.specs.Signs.{sum_with}
 use Rattle.sparse_poly.proofs.Adding.{signed_products-append}
 use Rattle.sparse_poly.proofs.Evaluation.{others, others-same, others-short, others-first, is_of-same, coefficient-append, zero_plus}
 use Rattle.sparse_poly.proofs.OneQuotient.{times_comm}
 use Rattle.sparse_poly.specs.OrderLaws.{same_term}
 
-*ℤ_assoc : (a b c : ℤ) → (a *ℤ b) *ℤ c ≡ a *ℤ (b *ℤ c)
+pub *ℤ_assoc : (a b c : ℤ) → (a *ℤ b) *ℤ c ≡ a *ℤ (b *ℤ c)
 *ℤ_assoc a b c = rw (is_diff a, is_diff b, is_diff c) (simp diffs (same_diff _ _ _ _ (omega arith)))
 
-+ℤ-*ℤ : (a b c : ℤ) → (a +ℤ b) *ℤ c ≡ (a *ℤ c) +ℤ (b *ℤ c)
+pub +ℤ-*ℤ : (a b c : ℤ) → (a +ℤ b) *ℤ c ≡ (a *ℤ c) +ℤ (b *ℤ c)
 +ℤ-*ℤ a b c = rw (is_diff a, is_diff b, is_diff c) (simp diffs (same_diff _ _ _ _ (omega arith)))
 
-zero_times : (a : ℤ) → pos 0 *ℤ a ≡ pos 0
+pub zero_times : (a : ℤ) → pos 0 *ℤ a ≡ pos 0
 zero_times a = *ℤ_comm (pos 0) a ∙ *ℤ-zero a
 
-times_one : (a : ℤ) → a *ℤ pos 1 ≡ a
+pub times_one : (a : ℤ) → a *ℤ pos 1 ≡ a
 unfolding lib.IntN.one
 times_one a = *ℤ-one a
-
--- the sum of the coefficients, each times what f says of its monomial
-abbrev sum_with : (List (ℕ × ℕ) → ℤ) → List Term → ℤ
-sum_with f [] = pos 0
-sum_with f (t ∷ ts) = (t.coeff *ℤ f t.monomial) +ℤ sum_with f ts
 
 module _ (f : List (ℕ × ℕ) → ℤ) where
   -- the terms of one monomial apart from the others
@@ -69,7 +65,7 @@ module _ (f : List (ℕ × ℕ) → ℤ) where
       ∙ ap (λ z. (coefficient us m *ℤ f m) +ℤ z) (same_within n (others m (t ∷ ts)) (others m us) small (others-same m (t ∷ ts) us e))
       ∙ sym (split m us)
 
-sum_with-same : (f : List (ℕ × ℕ) → ℤ) (ts us : List Term) → IsSum ts us → sum_with f ts ≡ sum_with f us
+pub sum_with-same : (f : List (ℕ × ℕ) → ℤ) (ts us : List Term) → IsSum ts us → sum_with f ts ≡ sum_with f us
 sum_with-same f ts us e = same_within f (length ts + length us) ts us (omega arith) e
 
 sum_with-each : (f g : List (ℕ × ℕ) → ℤ) (ts : List Term) → ((m : List (ℕ × ℕ)) → f m ≡ g m) → sum_with f ts ≡ sum_with g ts

@@ -14,3 +14,4 @@ pub mod OrderLaws
 pub mod Hashing
 pub mod Owing
 pub mod Shared
+pub mod Signs

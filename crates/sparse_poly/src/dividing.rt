@@ -201,8 +201,8 @@ fn divides_term(divisor: &Term, term: &Term) -> bool
     divides_number(divisor.coeff, term.coeff)
 }
 
-// Whether a number divides another.
-fn divides_number(divisor: i128, number: i128) -> bool
+/// Whether a number divides another.
+pub fn divides_number(divisor: i128, number: i128) -> bool
     requires nonzero { divisor ≢ pos 0 }
     requires small { unsigned_abs number ≤ max_coeff }
     ensures { result ≡ false → (z : ℤ) → z *ℤ divisor ≡ number → ⊥ }

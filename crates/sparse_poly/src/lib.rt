@@ -28,6 +28,7 @@ mod owing;
 mod packed_entry;
 mod packing;
 mod shared;
+mod signs;
 mod sources;
 mod squeezing;
 mod stripping;
@@ -44,6 +45,7 @@ use layout::{laid, without_layout};
 use monomial::Monomial;
 use multiplying::{added, combined, multiplied, summed};
 use shared::SharedTerms;
+use signs::values_divide;
 use std::alloc::{AllocError, AllocFailed, Global};
 use std::cmp::Ordering;
 use std::marker::Model;
@@ -290,7 +292,10 @@ impl Poly {
     {
         let whole = self.terms();
         let divisor = n.terms();
-        if !ends_divide(whole, divisor) || !degrees_divide(whole, divisor) {
+        if !ends_divide(whole, divisor)
+            || !degrees_divide(whole, divisor)
+            || !values_divide(whole, divisor)
+        {
             return Ok(None);
         }
         let alloc = self.terms.allocator();
