@@ -14,7 +14,7 @@ use monomial::Monomial;
 pub fn values_divide(terms: &[Term], divisor: &[Term]) -> bool
     ensures { result ≡ false → (g : List Term) → DividesOpenly divisor.now terms.now g → ⊥ }
 {
-    value_divides(29, terms, divisor) && value_divides(37, terms, divisor)
+    value_divides(37, terms, divisor) && value_divides(43, terms, divisor)
 }
 
 // Whether the value of a divisor at a point divides that of a polynomial.

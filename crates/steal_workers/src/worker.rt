@@ -15,7 +15,8 @@ use board_turns::{RootCopy, least_pending};
 use case_ledger::{Board, Reply};
 use std::alloc::Global;
 use std::sync::Wait;
-use std::thread;
+use std::sync::atomic::AtomicU64;
+use std::time::Duration;
 use steal_deck::{Owner, Thief};
 use turn_lock::{TurnSeat, Turns};
 
@@ -65,7 +66,7 @@ pub fn work<R: Wait, G: Gate>(
     for _ in rt.forever() {
         match next_case(rt, turns, seat, owner, thieves, &mut idle_sweeps) {
             Sweep::NonePending => return WorkEnd::Finished,
-            Sweep::Idle => thread::yield_now(),
+            Sweep::Idle => rest(rt, idle_sweeps),
             Sweep::Case(n) => match runner.work_on(rt, alloc, turns, seat, n) {
                 Ok(reply) => push_branches(owner, reply),
                 Err(_) => return WorkEnd::OutOfMemory,
@@ -104,6 +105,13 @@ fn next_case<R: Wait>(
     }
     *idle_sweeps = 0;
     Sweep::Case(n)
+}
+
+// Lets a worker sleep that was idle so many times in a row, the longer the more often, so that it takes neither turns nor a processor from those at
+// work.
+fn rest<R: Wait>(rt: &R, idle_sweeps: u32) {
+    let bed = AtomicU64::new(0);
+    bed.park_timeout(rt, 0, Duration::from_micros(20 * u64::from(idle_sweeps)));
 }
 
 // Puts the branches of a split onto the worker's own deck, the zero branch first.
