@@ -6,7 +6,7 @@ ghost use Rattle.sparse_poly.specs.Polynomials.{eval};
 ghost use Rattle.symbol_equations.specs.Values.{symbol_value};
 ghost use Rattle.symbol_equations.specs.Differences.{AreDifferences};
 ghost use Rattle.gauge_fix.specs.declared.inverse.InverseLabels.{InverseLabels};
-ghost use Rattle.gauge_fix.specs.Inverses.{is_row, is_column, are_rows, are_columns, is_channel, row_product, column_product, row_side, column_side, identity_side, braiding_side, one_side, IsRowEquation, IsColumnEquation, IsBraidingEquation, Inverses, AreInverseDifferences};
+ghost use Rattle.gauge_fix.specs.Inverses.{is_on, opposite, matrix, are_on, is_channel, entry_product, entry_side, identity_side, braiding_side, one_side, IsEntryEquation, IsBraidingEquation, Inverses, AreInverseDifferences};
 
 use field_laws::CharZeroField;
 use fusion_ring::Ring;
@@ -15,6 +15,13 @@ use sparse_poly::Poly;
 use std::alloc::{AllocError, Global};
 use symbol_equations::{Product, Sides, differences, fsym, ginv, summands};
 use symbol_index::{Symbol, Symbols};
+
+/// The labels e that are the rows of an F-matrix, or the labels f that are its columns.
+#[derive(Clone, Copy, Debug, PartialEq, Eq)]
+pub enum Side {
+    Rows,
+    Columns,
+}
 
 /// The labels at which an entry of a product of an F-matrix and its inverse stands: the labels of
 /// the matrices, and the row and the column of the entry. `channel` and `other` are both e, or both
@@ -36,8 +43,8 @@ pub fn inverses(alloc: Global, ring: &Ring, symbols: &Symbols) -> Result<Vec<Pol
     requires { symbols.now ≡ ring.now }
     ensures { IfOk result (λ v. AreInverseDifferences ring.now v.items) }
 {
-    let mut all = row_inverses(alloc, ring, symbols)?;
-    let mut others = column_inverses(alloc, ring, symbols)?;
+    let mut all = entry_inverses(alloc, ring, symbols, Side::Rows)?;
+    let mut others = entry_inverses(alloc, ring, symbols, Side::Columns)?;
     others.append(&mut braiding_inverses(alloc, ring, symbols)?)?;
     all.append(&mut others)?;
     Ok(all)
@@ -48,22 +55,20 @@ pub fn inverse_law<F: CharZeroField>()
     ensures { (r x ps : _) → AllElements F.field x → AreInverseDifferences r ps → (All (λ p. eval F.field x p ≡ F.field.zero) ps ↔ Inverses F.field r (symbol_value F.field r x)) }
 {}
 
-// The entries of F times G.
-fn row_inverses(alloc: Global, ring: &Ring, symbols: &Symbols) -> Result<Vec<Poly>, AllocError>
+// The entries of F times G, for two rows, or of G times F, for two columns.
+fn entry_inverses(
+    alloc: Global,
+    ring: &Ring,
+    symbols: &Symbols,
+    side: Side,
+) -> Result<Vec<Poly>, AllocError>
     requires { symbols.now ≡ ring.now }
-    ensures { IfOk result (λ v. AreDifferences ring.now (IsRowEquation ring.now) v.items) }
+    ensures { IfOk result (λ v. AreDifferences ring.now (IsEntryEquation side ring.now) v.items) }
 {
-    let all = row_labels(alloc, ring)?;
-    differences(alloc, symbols, &all, |at| row_sides(alloc, ring, at))
-}
-
-// The entries of G times F.
-fn column_inverses(alloc: Global, ring: &Ring, symbols: &Symbols) -> Result<Vec<Poly>, AllocError>
-    requires { symbols.now ≡ ring.now }
-    ensures { IfOk result (λ v. AreDifferences ring.now (IsColumnEquation ring.now) v.items) }
-{
-    let all = column_labels(alloc, ring)?;
-    differences(alloc, symbols, &all, |at| column_sides(alloc, ring, at))
+    let all = entry_labels(alloc, ring, side)?;
+    differences(alloc, symbols, &all, |at| {
+        entry_sides(alloc, ring, side, at)
+    })
 }
 
 // The products of R and S.
@@ -75,40 +80,17 @@ fn braiding_inverses(alloc: Global, ring: &Ring, symbols: &Symbols) -> Result<Ve
     differences(alloc, symbols, &all, |at| braiding_sides(alloc, at))
 }
 
-// The labels of the entries of F times G: two rows of one matrix.
-fn row_labels(alloc: Global, ring: &Ring) -> Result<Vec<InverseLabels>, AllocError>
-    ensures { IfOk result (λ v. (at : InverseLabels) → Contains v.items at ↔ IsTrue (are_rows ring.now at)) }
+// The labels of the entries: two rows, or two columns, of one matrix.
+fn entry_labels(alloc: Global, ring: &Ring, side: Side) -> Result<Vec<InverseLabels>, AllocError>
+    ensures { IfOk result (λ v. (at : InverseLabels) → Contains v.items at ↔ IsTrue (are_on side ring.now at)) }
 {
     let n = ring.labels();
     let found = all_fours(alloc, n)?;
     let found = extended(alloc, &found, n, |(a, b, c, d), e| {
-        (ring.channel(a, b, e) && ring.channel(e, c, d)).then_some((a, b, c, d, e))
+        is_on(ring, side, (a, b, c, d), e).then_some((a, b, c, d, e))
     })?;
     extended(alloc, &found, n, |(a, b, c, d, channel), other| {
-        let is_row = ring.channel(a, b, other) && ring.channel(other, c, d);
-        is_row.then_some(InverseLabels {
-            a,
-            b,
-            c,
-            d,
-            channel,
-            other,
-        })
-    })
-}
-
-// The labels of the entries of G times F: two columns of one matrix.
-fn column_labels(alloc: Global, ring: &Ring) -> Result<Vec<InverseLabels>, AllocError>
-    ensures { IfOk result (λ v. (at : InverseLabels) → Contains v.items at ↔ IsTrue (are_columns ring.now at)) }
-{
-    let n = ring.labels();
-    let found = all_fours(alloc, n)?;
-    let found = extended(alloc, &found, n, |(a, b, c, d), f| {
-        (ring.channel(b, c, f) && ring.channel(a, f, d)).then_some((a, b, c, d, f))
-    })?;
-    extended(alloc, &found, n, |(a, b, c, d, channel), other| {
-        let is_column = ring.channel(b, c, other) && ring.channel(a, other, d);
-        is_column.then_some(InverseLabels {
+        is_on(ring, side, (a, b, c, d), other).then_some(InverseLabels {
             a,
             b,
             c,
@@ -131,20 +113,18 @@ fn channels(alloc: Global, ring: &Ring) -> Result<Vec<(u8, u8, u8)>, AllocError>
     })
 }
 
-// Both sides of an entry of F times G: the sum runs over the columns.
-fn row_sides(alloc: Global, ring: &Ring, at: InverseLabels) -> Result<Sides, AllocError>
-    ensures { IfOk result (λ s. s ≡ (row_side ring.now at, identity_side at)) }
+// Both sides of an entry: the sum runs over the columns for two rows, and over the rows for two columns.
+fn entry_sides(
+    alloc: Global,
+    ring: &Ring,
+    side: Side,
+    at: InverseLabels,
+) -> Result<Sides, AllocError>
+    ensures { IfOk result (λ s. s ≡ (entry_side side ring.now at, identity_side at)) }
 {
-    let left = summands(alloc, ring.labels(), |f| row_product(alloc, ring, at, f))?;
-    let right = identity_side(alloc, at)?;
-    Ok(Sides::new(left, right))
-}
-
-// Both sides of an entry of G times F: the sum runs over the rows.
-fn column_sides(alloc: Global, ring: &Ring, at: InverseLabels) -> Result<Sides, AllocError>
-    ensures { IfOk result (λ s. s ≡ (column_side ring.now at, identity_side at)) }
-{
-    let left = summands(alloc, ring.labels(), |e| column_product(alloc, ring, at, e))?;
+    let left = summands(alloc, ring.labels(), |x| {
+        entry_product(alloc, ring, side, at, x)
+    })?;
     let right = identity_side(alloc, at)?;
     Ok(Sides::new(left, right))
 }
@@ -170,54 +150,46 @@ fn one_product(alloc: Global, factors: &[Symbol]) -> Result<Vec<Product>, AllocE
     Ok(products)
 }
 
-// The product of F and G at one label f, if it is a column.
-fn row_product(
+// The product of F and G at one label, if it is on the other side.
+fn entry_product(
     alloc: Global,
     ring: &Ring,
+    side: Side,
     at: InverseLabels,
-    f: u8,
+    x: u8,
 ) -> Result<Option<Product>, AllocError>
-    ensures { IfOk result (λ o. o ≡ (if is_column ring.now at f then Some (row_product at f) else None)) }
+    ensures { IfOk result (λ o. o ≡ (if is_on (opposite side) ring.now (matrix at) x then Some (entry_product side at x) else None)) }
 {
-    if !is_column(ring, at, f) {
+    let labels = (at.a, at.b, at.c, at.d);
+    if !is_on(ring, opposite(side), labels, x) {
         return Ok(None);
     }
-    let labels = (at.a, at.b, at.c, at.d);
-    let first = fsym(labels, (at.channel, f));
-    let second = ginv(labels, (f, at.other));
-    Ok(Some(Product::new(alloc, &[first, second])?))
+    let factors = match side {
+        Side::Rows => [fsym(labels, (at.channel, x)), ginv(labels, (x, at.other))],
+        Side::Columns => [ginv(labels, (at.channel, x)), fsym(labels, (x, at.other))],
+    };
+    Ok(Some(Product::new(alloc, &factors)?))
 }
 
-// The product of G and F at one label e, if it is a row.
-fn column_product(
-    alloc: Global,
-    ring: &Ring,
-    at: InverseLabels,
-    e: u8,
-) -> Result<Option<Product>, AllocError>
-    ensures { IfOk result (λ o. o ≡ (if is_row ring.now at e then Some (column_product at e) else None)) }
+// The columns for the rows, and the rows for the columns.
+fn opposite(side: Side) -> Side
+    ensures { result ≡ opposite side }
 {
-    if !is_row(ring, at, e) {
-        return Ok(None);
+    match side {
+        Side::Rows => Side::Columns,
+        Side::Columns => Side::Rows,
     }
-    let labels = (at.a, at.b, at.c, at.d);
-    let first = ginv(labels, (at.channel, e));
-    let second = fsym(labels, (e, at.other));
-    Ok(Some(Product::new(alloc, &[first, second])?))
 }
 
-// Whether N(a,b,e) = N(e,c,d) = 1.
-fn is_row(ring: &Ring, at: InverseLabels, e: u8) -> bool
-    ensures { result ≡ is_row ring.now at e }
+// Whether x is on the side: N(a,b,x) = N(x,c,d) = 1 for the rows, and N(b,c,x) = N(a,x,d) = 1 for the columns.
+fn is_on(ring: &Ring, side: Side, labels: (u8, u8, u8, u8), x: u8) -> bool
+    ensures { result ≡ is_on side ring.now labels x }
 {
-    ring.channel(at.a, at.b, e) && ring.channel(e, at.c, at.d)
-}
-
-// Whether N(b,c,f) = N(a,f,d) = 1.
-fn is_column(ring: &Ring, at: InverseLabels, f: u8) -> bool
-    ensures { result ≡ is_column ring.now at f }
-{
-    ring.channel(at.b, at.c, f) && ring.channel(at.a, f, at.d)
+    let (a, b, c, d) = labels;
+    match side {
+        Side::Rows => ring.channel(a, b, x) && ring.channel(x, c, d),
+        Side::Columns => ring.channel(b, c, x) && ring.channel(a, x, d),
+    }
 }
 
 // An entry of the identity: one empty product, or none.

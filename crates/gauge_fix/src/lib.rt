@@ -5,4 +5,4 @@ mod gauge;
 mod inverse;
 
 pub use gauge::{gauge_law, gauges};
-pub use inverse::{InverseLabels, inverse_law, inverses};
+pub use inverse::{InverseLabels, Side, inverse_law, inverses};
