@@ -11,7 +11,7 @@ use crate::symbols::{Named, NamedEntry};
 use decimal_text::read_signed;
 use fusion_ring::Ring;
 use std::alloc::Global;
-use symbol_index::{GaugeEntry, Symbol};
+use symbol_index::{GaugeEntry, Symbol, is_unknown};
 
 /// The greatest absolute value of a gauge value.
 const MAX_VALUE: u128 = 170_141_183_460_469_231_731_687_303_715_884_105_727;
@@ -69,15 +69,8 @@ fn is_gauge_symbol(ring: &Ring, symbol: Symbol) -> bool
     ensures { result ≡ is_gauge_symbol ring.now symbol }
 {
     match symbol {
-        Symbol::Fsym { a, b, c, d, e, f } => {
-            !(a == 0 || b == 0 || c == 0)
-                && (ring.channel(a, b, e)
-                    && ring.channel(e, c, d)
-                    && ring.channel(b, c, f)
-                    && ring.channel(a, f, d))
-        }
-        Symbol::Rsym { a, b, c } => !(a == 0 || b == 0) && ring.channel(a, b, c),
-        _ => false,
+        Symbol::Fsym { .. } | Symbol::Rsym { .. } => is_unknown(ring, symbol),
+        Symbol::Ginv { .. } | Symbol::Sinv { .. } => false,
     }
 }
 

@@ -163,6 +163,13 @@ impl Symbols {
     }
 }
 
+/// Whether a symbol is admissible and no unit symbol, and so an unknown of the ring.
+pub fn is_unknown(ring: &Ring, s: Symbol) -> bool
+    ensures { result ≡ is_unknown ring.now s }
+{
+    !has_unit(s) && is_admissible(ring, s)
+}
+
 fn is_admissible(ring: &Ring, s: Symbol) -> bool
     ensures { result ≡ is_admissible ring.now s }
 {
