@@ -14,7 +14,7 @@ use std::alloc::Global;
 use symbol_index::{GaugeEntry, Symbol, is_unknown};
 
 /// The greatest absolute value of a gauge value.
-const MAX_VALUE: u128 = 170_141_183_460_469_231_731_687_303_715_884_105_727;
+const MAX_VALUE: u128 = i128::MAX as u128;
 
 /// A gauge entry with its value.
 #[derive(Clone, Copy)]
