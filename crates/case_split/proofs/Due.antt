@@ -1,21 +1,19 @@
 -- The rules that give the move that is due.
-use Rattle.std.specs.Prelude.{◌≡◌, ◌≢◌, ◌<◌, ◌≤◌, ℕ, zero, suc, ◌+◌, ℤ, pos, negsuc, List, [], MatchOption, refl}
+use Rattle.std.specs.Prelude.{◌≡◌, ◌≢◌, ◌<◌, ◌≤◌, ℕ, ◌+◌, List, [], MatchOption}
 use mathlib.Core.Logic.{inl}
-use Rattle.std.proofs.Common.{arith, subst, sym, ◌∙◌, ap, below_more}
+use Rattle.std.proofs.Common.{arith, subst, sym, ◌∙◌, below_more}
 use Rattle.std.specs.declared.option.Option.{Option}
 use Rattle.std.specs.declared.option.Option.TheVariants.{None, Some}
 use Rattle.sparse_poly.specs.declared.Term.{Term}
-use Rattle.sparse_poly.specs.Polynomials.{constant, variable}
+use Rattle.sparse_poly.specs.Polynomials.{variable}
 use Rattle.sparse_poly.specs.Contributions.{IsPoly}
-use Rattle.sparse_poly.specs.Reads.{main_variable}
 use Rattle.sparse_poly.specs.Clearing.{IsDividedBy}
 use Rattle.char_set.specs.Triangular.{IsDecided}
-use Rattle.derive_lines.specs.Refuting.{IsNonzeroConstant}
 use Rattle.case_rules.specs.declared.moves.Move.{Move}
 use Rattle.case_rules.specs.declared.moves.Move.TheVariants.{Reduce, Split}
 use Rattle.case_rules.specs.Cases.{CaseState, known, poly, count}
 use Rattle.case_rules.specs.Belonging.{Belongs}
-use Rattle.case_rules.specs.Rules.{None_has, IsLeast, IsAlive, IsLinearIn, IsOtherWith, IsLinearAt, IsLinearMove, IsFactorAt, IsFactorMove, IsLowestDividing, IsPaired, IsUndecidedAt, IsMove, factor, pair_reduction, pair_split, initial_split}
+use Rattle.case_rules.specs.Rules.{None_has, IsLeast, IsAlive, IsLinearIn, IsOtherWith, IsLinearAt, IsLinearMove, IsFactorAt, IsFactorMove, IsPaired, IsUndecidedAt, IsMove, factor, pair_reduction, pair_split, initial_split}
 use Rattle.case_rules.proofs.Regular.{polys_at, polys_length, constant_of}
 use Rattle.case_split.specs.Found.{IsVariable, AreInOrder, HaveMain, IsPair, IsSplitFor}
 
@@ -36,17 +34,9 @@ nonzero_at c s i l = subst (λ p. p ≢ []) (polys_at c.equations i [] l) (s.asc
 pub have_main : (c : CaseState) → AreInOrder c → IsAlive c → HaveMain c
 have_main c s a i l e = a i (record { place = l; contradiction = inl (constant_of (poly c i) (poly_of c s i l) (nonzero_at c s i l) e) })
 
--- an equation that is not linear in its main variable, and one that is and whose variable stands nowhere else
+-- an equation that is not linear in its main variable
 pub not_linear : (c : CaseState) (i : ℕ) (p : List Term) → p ≡ poly c i → ((v : ℕ) → IsLinearIn p v → ⊥) → ¬ IsLinearAt c i
 not_linear c i p e n h = n h.v (subst (λ p. IsLinearIn p h.v) (sym e) h.linear)
-
-pub no_other : (c : CaseState) (i v : ℕ) (p : List Term) → p ≡ poly c i → IsLinearIn p v → None_has (IsOtherWith c i v) → ¬ IsLinearAt c i
-no_other c i v p e l n h =
-    let same : h.v ≡ v = same_variable h.v v (sym h.linear.main ∙ ap main_variable (sym e) ∙ l.main) in
-    n h.q (subst (λ w. IsOtherWith c i w h.q) same h.other)
-  where
-    same_variable : (v w : ℕ) → Some v ≡ Some w → v ≡ w
-    same_variable v w e = cc e
 
 pub linear_at : (c : CaseState) (q p v : ℕ) (x : List Term) → p < count c → x ≡ poly c p → IsLinearIn x v → ((j : ℕ) → j < p → ¬ IsLinearAt c j) → IsLeast (IsOtherWith c p v) q → IsLinearMove c q p v
 linear_at c q p v x l e m n o =
@@ -61,24 +51,12 @@ none_new c n i at p e f none only j l h = let same : Some i ≡ Some j = sym e �
 pub none_beyond : (P : ℕ → Type 0) (n i : ℕ) (at : Option ℕ) → at ≡ Some i → n ≤ i → ((j : ℕ) → j < n → P j → at ≡ Some j) → (j : ℕ) → j < n → ¬ P j
 none_beyond P n i at e b only j l h = let same : Some i ≡ Some j = sym e ∙ only j l h in let k : i ≡ j = cc same in absurd (omega (arith, l, b, k))
 
--- an equation that no variable divides, one that is a variable, and one that is neither
+-- an equation that no variable divides, and one that is a variable
 pub not_divided : (c : CaseState) (i : ℕ) (p : List Term) → p ≡ poly c i → None_has (λ v. IsDividedBy v p) → ¬ IsFactorAt c i
 not_divided c i p e n h = n h.v (subst (IsDividedBy h.v) (sym e) h.divided)
 
 pub no_more : (c : CaseState) (i : ℕ) (p : List Term) → p ≡ poly c i → IsVariable p → ¬ IsFactorAt c i
 no_more c i p e v h = h.more v.0 (sym e ∙ v.1)
-
-pub factor_at : (c : CaseState) (i v : ℕ) (p : List Term) → i < count c → p ≡ poly c i → IsLowestDividing p v → (IsVariable p → ⊥) → ((j : ℕ) → j < i → ¬ IsFactorAt c j) → IsFactorMove c (variable v) None
-factor_at c i v p l e d n f =
-    let own : IsLowestDividing (poly c i) v = subst (λ p. IsLowestDividing p v) e d in
-    record {
-      at = i;
-      least = record { has = record { place = l; v = v; divided = own.has; more = λ w g. n (w, e ∙ g) }; none_below = f };
-      v = v;
-      lowest = own;
-      is_variable = refl;
-      no_tail = refl;
-    }
 
 -- the move by each rule
 pub factor_due : (c : CaseState) (v : ℕ) (by : List Term) → by ≡ variable v → None_has (IsLinearAt c) → IsFactorMove c (variable v) None → IsMove c (Split by None)
@@ -101,15 +79,6 @@ decided_by u u' p p' T e f h t = subst (λ u. IsDecided u p') e (subst (IsDecide
 
 pub undecided_by : (u u' : List (List Term)) (p p' : List Term) (T : Type 0) → u ≡ u' → p ≡ p' → (T → IsDecided u p) × (IsDecided u p → T) → (T → ⊥) → ¬ IsDecided u' p'
 undecided_by u u' p p' T e f h n d = n (h.1 (subst (IsDecided u) (sym f) (subst (λ u. IsDecided u p') (sym e) d)))
-
--- a constant is zero or not
-constant_zero : (n : ℤ) → constant n ≡ [] → n ≡ pos 0
-constant_zero (pos zero) e = refl
-constant_zero (pos (suc n)) e = absurd (cc e)
-constant_zero (negsuc n) e = absurd (cc e)
-
-pub zero_no_constant : (p : List Term) → p ≡ constant (pos 0) → IsNonzeroConstant p → ⊥
-zero_no_constant p e c = c.nonzero (constant_zero c.number (sym c.is ∙ e))
 
 -- the answer of a test, where it is none, and where it is some
 pub none_case : {X : Type 0} → (o : Option X) (P : Type 0) (Q : X → Type 0) → MatchOption o P Q → o ≡ None → P

@@ -27,9 +27,6 @@ use Rattle.case_split.specs.Found.{AreInOrder, IsFirstOf}
 use Rattle.case_split.proofs.Due.{poly_of, nonzero_at}
 use Rattle.case_split.proofs.Ordered.{leading_order}
 
-none_contained : {X : Type 0} (x : X) → Contains [] x → ⊥
-none_contained x h = let l = h.1 in absurd (omega (arith, l))
-
 one_contained : {X : Type 0} (x y : X) → Contains (x ∷ []) y → x ≡ y
 one_contained x y (zero, l, e) = e
 one_contained x y (suc k, l, e) = absurd (omega (arith, l))
@@ -63,9 +60,6 @@ below_constant (t ∷ ts) (u ∷ us) h i n e o = each (leading_order t ts u us o
     each (inr same) = main_variable-leading t ts h.falling ∙ ap top same ∙ last
 
 -- the first of more polynomials
-pub first_of_none : (c : CaseState) (n : ℕ) → IsFirstOf c [] n n
-first_of_none c n = record { within = omega arith; none_below = λ j l x. none_contained (poly c j) x; stands = λ d. absurd (d refl) }
-
 pub first_of_more : (c : CaseState) (ns : List (List Term)) (p : List Term) (n r s : ℕ) → IsFirstOf c ns n r → IsFirstOf c (p ∷ []) r s → IsFirstOf c (ns ++ p ∷ []) n s
 first_of_more c ns p n r s h g = record {
   within = (let a = h.within in let b = g.within in omega (arith, a, b));
@@ -94,14 +88,6 @@ pub record IsBetween (c : CaseState) (p : List Term) (n low high : ℕ) : Type 0
   pub below : (j : ℕ) → high ≤ j → j < n → poly_cmp p (poly c j) ≡ Less
 
 module _ (c : CaseState) (s : AreInOrder c) (p : List Term) (n : ℕ) (within : n ≤ count c) where
-  pub between_all : IsBetween c p n 0 n
-  between_all = record {
-    low_within = omega arith;
-    high_within = omega arith;
-    above = λ j l. absurd (omega (arith, l));
-    below = λ j l k. absurd (omega (arith, l, k));
-  }
-
   up_to : (i j : ℕ) → j ≤ i → i < n → (poly_cmp (poly c j) (poly c i) ≡ Less) ⊎ (i ≡ j)
   up_to i j l k = each (cases_order i j)
     where
@@ -171,9 +157,6 @@ module _ (c : CaseState) (s : AreInOrder c) (p : List Term) (n : ℕ) (within : 
 
 -- the ends of the search
 module _ (c : CaseState) (s : AreInOrder c) where
-  pub dead_first : (p : List Term) → p ≡ poly c 0 → 0 < count c → IsNonzeroConstant p → IsLeast (IsDeadAt c) 0
-  dead_first p e l h = record { has = record { place = l; contradiction = inl (subst IsNonzeroConstant e h) }; none_below = λ j k. absurd (omega (arith, k)) }
-
   no_constant : (i : ℕ) → i < count c → ¬ IsNonzeroConstant (poly c 0) → ¬ IsNonzeroConstant (poly c i)
   no_constant i l n h = each (cases_order i 0)
     where

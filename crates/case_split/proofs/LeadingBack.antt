@@ -1,22 +1,18 @@
 -- Known conditions whose full remainder is zero, and the lines that lead back.
-use Rattle.std.specs.Prelude.{◌≡◌, ◌≢◌, ◌<◌, ℕ, zero, suc, ◌+◌, List, [], ◌∷◌, ◌++◌, length, slice_index_or, refl}
-use Rattle.std.proofs.Common.{arith, subst, sym, ◌∙◌, ap, append_assoc, append-nil, length-append}
+use Rattle.std.specs.Prelude.{◌≡◌, ◌<◌, ℕ, zero, suc, ◌+◌, List, [], ◌∷◌, ◌++◌, length, slice_index_or, refl}
+use Rattle.std.proofs.Common.{arith, subst, ◌∙◌, ap, append_assoc, length-append}
 use Rattle.std.proofs.lemmas.Option.{slice_get_within}
 use Rattle.std.specs.declared.option.Option.{Option}
-use Rattle.std.specs.declared.option.Option.TheVariants.{None, Some}
+use Rattle.std.specs.declared.option.Option.TheVariants.{Some}
 use Rattle.sparse_poly.specs.declared.Term.{Term}
-use Rattle.sparse_poly.specs.declared.PolyFault.{PolyFault}
-use Rattle.sparse_poly.specs.declared.PolyFault.TheVariants.{OutOfMemory}
-use Rattle.sparse_poly.specs.Reads.{HaveMainVariables}
 use Rattle.pseudo_rem.specs.declared.remainders.Step.{Step}
-use Rattle.pseudo_rem.specs.Remainders.{rest_of, AreNextSteps, IsNextStep, AreSteps, IsRemainderFault}
+use Rattle.pseudo_rem.specs.Remainders.{rest_of, AreNextSteps, IsNextStep}
 use Rattle.derive_lines.specs.declared.parts.Item.{Item}
 use Rattle.derive_lines.specs.declared.parts.Item.TheVariants as item
 use Rattle.derive_lines.specs.declared.parts.Line.{Line}
 use Rattle.case_rules.specs.Cases.{CaseState, known, equation, polys, count}
 use Rattle.case_rules.specs.Rules.{HasZeroRemainder, condition}
 use Rattle.case_rules.specs.Ends.{last_line, back_lines}
-use Rattle.case_rules.proofs.OneEnd.{OneRemainder, zero_steps}
 use Rattle.case_rules.proofs.Regular.{polys_length}
 use Rattle.case_split.specs.Found.{back_line}
 
@@ -35,9 +31,6 @@ pub record AreLedBack (c : CaseState) (n : List Term) (all : List Step) (before 
   pub is_all : all ≡ left ++ taken
   pub from_is : from ≡ last_line (length before) (length taken)
   pub lines_are : lines ≡ before ++ back_lines c (length before) (rest_of n left) taken
-
-pub led_back_none : (c : CaseState) (n : List Term) (all : List Step) (before : List Line) → AreLedBack c n all before all None before
-led_back_none c n all before = record { taken = []; is_all = sym (append-nil all); from_is = refl; lines_are = sym (append-nil before) }
 
 pub back_length : (c : CaseState) (k : ℕ) (n : List Term) (ss : List Step) → length (back_lines c k n ss) ≡ length ss
 back_length c k n [] = refl
@@ -63,30 +56,12 @@ led_back_more c n all before left now s from next lines new e f g h = record {
     long : length lines ≡ length before + length h.taken
     long = ap length whole ∙ length-append before made ∙ ap (λ k. length before + k) (back_length c (length before) s.reduction.r h.taken)
 
-pub led_back_all : (c : CaseState) (n : List Term) (all : List Step) (before : List Line) (left : List Step) (from : Option Item) (lines : List Line) → left ≡ [] → AreLedBack c n all before left from lines → lines ≡ before ++ back_lines c (length before) n all
-led_back_all c n all before left from lines e h =
-    h.lines_are ∙ ap (λ ss. before ++ back_lines c (length before) (rest_of n ss) h.taken) e ∙ ap (λ ss. before ++ back_lines c (length before) n ss) (sym (h.is_all ∙ ap (λ ss. ss ++ h.taken) e))
-
 -- the next step that is taken was by an equation
 pub taken_place : (c : CaseState) (n : List Term) (all : List Step) (before : List Line) (left now : List Step) (s : Step) (from : Option Item) (lines : List Line) → left ≡ now ++ s ∷ [] → HasZeroRemainder c n all → AreLedBack c n all before left from lines → s.by < count c
 taken_place c n all before left now s from lines e z h =
     let whole : all ≡ now ++ s ∷ h.taken = h.is_all ∙ ap (λ ss. ss ++ h.taken) e ∙ append_assoc now (s ∷ []) h.taken in
     let step = last_step (known c) (polys c) n now s h.taken (subst (AreNextSteps (known c) (polys c) n) whole z.each) in
     omega (arith, slice_get_within (polys c) s.by step.poly step.next.member, polys_length c.equations)
-
--- a full remainder that is not zero, and one that is stopped
-pub other_remainder : (remainder : OneRemainder) (c : CaseState) (n : List Term) (list : List (List Term)) (steps : List Step) → list ≡ polys c → HaveMainVariables list → AreSteps (known c) list n steps → rest_of n steps ≢ [] → (others : List Step) → HasZeroRemainder c n others → ⊥
-other_remainder remainder c n list steps e m h z others k =
-    let own : AreSteps (known c) (polys c) n steps = subst (λ l. AreSteps (known c) l n steps) e h in
-    let same : steps ≡ others = remainder (known c) (polys c) n steps others (subst HaveMainVariables e m) own (zero_steps c n others k) in
-    z (ap (rest_of n) same ∙ k.zero)
-
-pub stopped_remainder : (c : CaseState) (n : List Term) (list : List (List Term)) (fault : PolyFault) → ((units list : List (List Term)) (n : List Term) (steps : List Step) (fault : PolyFault) → HaveMainVariables list → AreSteps units list n steps → IsRemainderFault units list n fault → fault ≡ OutOfMemory) → list ≡ polys c → HaveMainVariables list → IsRemainderFault (known c) list n fault → fault ≢ OutOfMemory → (others : List Step) → HasZeroRemainder c n others → ⊥
-stopped_remainder c n list fault law e m f d others k =
-    d (law (known c) list n others fault m (subst (λ l. AreSteps (known c) l n others) (sym e) (zero_steps c n others k)) f)
-
-pub remainder_zero : (c : CaseState) (n : List Term) (list : List (List Term)) (steps : List Step) → list ≡ polys c → AreSteps (known c) list n steps → rest_of n steps ≡ [] → HasZeroRemainder c n steps
-remainder_zero c n list steps e h z = record { each = subst (λ l. AreNextSteps (known c) l n steps) e h.each; zero = z }
 
 -- a known condition by its place
 place_is : (ns : List (List Term)) (k : ℕ) (n : List Term) → k < length ns → n ≡ slice_index_or ns k n → n ≡ slice_index_or ns k []

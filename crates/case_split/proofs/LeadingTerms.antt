@@ -1,5 +1,5 @@
 -- What the leading monomial says of the variables of a polynomial.
-use Rattle.std.specs.Prelude.{◌≡◌, ◌≢◌, ◌⊎◌, ◌<◌, ◌≤◌, ℕ, zero, suc, ◌+◌, max, ◌==◌, true, false, if◌then◌else◌, pos, ℤ, List, [], ◌∷◌, length, slice_get, slice_index_or, MatchOption, refl}
+use Rattle.std.specs.Prelude.{◌≡◌, ◌≢◌, ◌⊎◌, ◌<◌, ◌≤◌, ℕ, max, ◌==◌, true, false, if◌then◌else◌, List, [], ◌∷◌, length, slice_get, slice_index_or, MatchOption, refl}
 use mathlib.Core.Logic.{inl, inr}
 use Rattle.std.proofs.Common.{arith, subst, sym, ◌∙◌, ap}
 use Rattle.std.proofs.lemmas.Bool.{cases_order}
@@ -13,15 +13,12 @@ use Rattle.monomial.proofs.Exponents.{exponent_here, exponent_there}
 use Rattle.monomial.proofs.Greatest.{top-greatest}
 use Rattle.monomial.proofs.Lower.{IsLower-from_cmp}
 use Rattle.sparse_poly.specs.declared.Term.{Term}
-use Rattle.sparse_poly.specs.Polynomials.{variable}
 use Rattle.sparse_poly.specs.Contributions.{higher, IsPoly}
 use Rattle.sparse_poly.specs.Reads.{degree_in, main_variable, coefficient_of_power, leading_in}
-use Rattle.sparse_poly.specs.Clearing.{IsDividedBy}
 use Rattle.sparse_poly.proofs.Adding.{none_before}
 use Rattle.sparse_poly.proofs.Ordered.{main_variable-leading}
 use Rattle.char_set.specs.Triangular.{initial, initial_in}
-use Rattle.case_rules.specs.Rules.{None_has, IsLinearIn, IsLowestDividing}
-use Rattle.case_split.specs.Found.{IsVariable}
+use Rattle.case_rules.specs.Rules.{IsLinearIn}
 
 -- a variable as a monomial
 abbrev pub alone : ℕ → List (ℕ × ℕ)
@@ -31,19 +28,6 @@ pub one_power : (m : List (ℕ × ℕ)) (p : ℕ × ℕ) → length m ≡ 1 → 
 one_power [] p l s e = absurd (omega (arith, l))
 one_power (q ∷ []) p l s e = ap (λ x. x ∷ []) (sym s ∙ ap (λ k. (p.0, k)) e)
 one_power (q ∷ r ∷ rs) p l s e = absurd (omega (arith, l))
-
-pub more_powers : (m : List (ℕ × ℕ)) → length m ≢ 1 → (v : ℕ) → m ≢ alone v
-more_powers m n v e = n (ap length e)
-
-pub other_power : (m : List (ℕ × ℕ)) (p : ℕ × ℕ) → p ≡ slice_index_or m 0 (0, 0) → p.1 ≢ 1 → (v : ℕ) → m ≢ alone v
-other_power m p s n v e = n (ap (λ (x : ℕ × ℕ). x.1) (s ∙ ap (λ m. slice_index_or m 0 (0, 0)) e))
-
--- a polynomial of one term
-pub variable_is : (t : Term) (v : ℕ) → t.coeff ≡ pos 1 → t.monomial ≡ alone v → IsVariable (t ∷ [])
-variable_is t v c m = (v, ap (λ (x : List (ℕ × ℕ)). let u : Term = record { monomial = x; coeff = t.coeff } in u ∷ []) m ∙ ap (λ (x : ℤ). let u : Term = record { monomial = alone v; coeff = x } in u ∷ []) c)
-
-pub variable_parts : (t : Term) (v : ℕ) → t ∷ [] ≡ variable v → (t.coeff ≡ pos 1) × (t.monomial ≡ alone v)
-variable_parts t v e = let same : t ≡ record { monomial = alone v; coeff = pos 1 } = cc e in (ap (λ (u : Term). u.coeff) same, ap (λ (u : Term). u.monomial) same)
 
 -- a lower monomial has no greater exponent in the greatest variable of the other
 pub top_exponent : (a b : List (ℕ × ℕ)) (v : ℕ) → IsPowers b → top b ≡ Some v → IsLower a b → exponent a v ≤ exponent b v
@@ -169,60 +153,6 @@ linear_alone t ts v h l = each t.monomial h.monomials.0.powers leads own nothing
         let one : q.1 ≡ 1 = sym (exponent_here q qs v same) ∙ o in
         let rest : qs ≡ [] = no_more qs (subst (λ w. IsBelow w qs) same p.1) (sym (ap top (skips q qs same)) ∙ n) in
         ap (λ xs. q ∷ xs) rest ∙ ap (λ w. (w, q.1) ∷ []) same ∙ ap (λ k. (v, k) ∷ []) one
-
--- a variable that occurs has a place, and places fall
-place_of_variable : (m : List (ℕ × ℕ)) (v : ℕ) → 0 < exponent m v → (j : ℕ) × (j < length m) × ((slice_index_or m j (0, 0)).0 ≡ v)
-place_of_variable [] v l = absurd (omega (arith, l))
-place_of_variable (p ∷ ps) v l = each (eqb_tells p.0 v) (place_of_variable ps v)
-  where
-    each : ((p.0 == v) ≡ true) × (p.0 ≡ v) ⊎ ((p.0 == v) ≡ false) × (p.0 ≢ v) → (0 < exponent ps v → (j : ℕ) × (j < length ps) × ((slice_index_or ps j (0, 0)).0 ≡ v)) → (j : ℕ) × (j < length (p ∷ ps)) × ((slice_index_or (p ∷ ps) j (0, 0)).0 ≡ v)
-    each (inl x) f = (0, omega arith, x.1)
-    each (inr x) f = let o = exponent_there p ps v x.1 in let r = f (omega (arith, l, o)) in (suc r.0, (let k = r.1 in omega (arith, k)), r.2)
-
-below_first : (w : ℕ) (ps : List (ℕ × ℕ)) (j : ℕ) → IsBelow w ps → j < length ps → (slice_index_or ps j (0, 0)).0 < w
-below_first w [] j b l = absurd (omega (arith, l))
-below_first w (p ∷ ps) zero b l = b.0
-below_first w (p ∷ ps) (suc j) b l = below_first w ps j b.1 (omega (arith, l))
-
-places_fall : (m : List (ℕ × ℕ)) (i j : ℕ) → IsPowers m → i < j → j < length m → (slice_index_or m j (0, 0)).0 < (slice_index_or m i (0, 0)).0
-places_fall [] i j h k l = absurd (omega (arith, l))
-places_fall (p ∷ ps) i zero h k l = absurd (omega (arith, k))
-places_fall (p ∷ ps) zero (suc j) h k l = below_first p.0 ps j h.1 (omega (arith, l))
-places_fall (p ∷ ps) (suc i) (suc j) h k l = places_fall ps i j h.2 (omega (arith, k)) (omega (arith, l))
-
--- no variable at these places of the leading monomial divides
-abbrev pub None_divides_from : List Term → List (ℕ × ℕ) → ℕ → Type 0
-None_divides_from p m i = (j : ℕ) → i ≤ j → j < length m → IsDividedBy (slice_index_or m j (0, 0)).0 p → ⊥
-
--- a variable that divides a polynomial occurs in each term
-divides_term : (v : ℕ) (p : List Term) (k : ℕ) (t : Term) → Some t ≡ slice_get p k → IsDividedBy v p → 0 < exponent t.monomial v
-divides_term v [] k t e d = absurd (cc e)
-divides_term v (u ∷ us) zero t e d = let same : t ≡ u = cc e in subst (λ (t : Term). 0 < exponent t.monomial v) (sym same) d.0
-divides_term v (u ∷ us) (suc k) t e d = divides_term v us k t e d.1
-
-pub none_divides : (p : List Term) (k : ℕ) (t : Term) → Some t ≡ slice_get p k → None_divides_from p t.monomial 0 → None_has (λ v. IsDividedBy v p)
-none_divides p k t e n v d =
-    let r = place_of_variable t.monomial v (divides_term v p k t e d) in
-    n r.0 (omega arith) r.1 (subst (λ w. IsDividedBy w p) (sym r.2) d)
-
-pub lowest_at : (p : List Term) (k : ℕ) (t : Term) (i : ℕ) → Some t ≡ slice_get p k → IsPowers t.monomial → i < length t.monomial → None_divides_from p t.monomial (i + 1) → IsDividedBy (slice_index_or t.monomial i (0, 0)).0 p → IsLowestDividing p (slice_index_or t.monomial i (0, 0)).0
-lowest_at p k t i e h l n d = record { has = d; none_below = λ w b g. below w b g }
-  where
-    below : (w : ℕ) → w < (slice_index_or t.monomial i (0, 0)).0 → IsDividedBy w p → ⊥
-    below w b g = let r = place_of_variable t.monomial w (divides_term w p k t e g) in each r.0 r.1 r.2 (cases_order r.0 i)
-      where
-        each : (j : ℕ) → j < length t.monomial → (slice_index_or t.monomial j (0, 0)).0 ≡ w → (j ≡ i) ⊎ ((j < i) ⊎ (i < j)) → ⊥
-        each j lj ej (inl x) = absurd (omega (arith, b, ej, ap (λ j. (slice_index_or t.monomial j (0, 0)).0) x))
-        each j lj ej (inr (inl x)) = let f = places_fall t.monomial j i h x l in absurd (omega (arith, b, ej, f))
-        each j lj ej (inr (inr x)) = n j (omega (arith, x)) lj (subst (λ w. IsDividedBy w p) (sym ej) g)
-
-pub none_more_divides : (p : List Term) (m : List (ℕ × ℕ)) (i : ℕ) → None_divides_from p m (i + 1) → (IsDividedBy (slice_index_or m i (0, 0)).0 p → ⊥) → None_divides_from p m i
-none_more_divides p m i n d j a b = each (cases_order j i)
-  where
-    each : (j ≡ i) ⊎ ((j < i) ⊎ (i < j)) → IsDividedBy (slice_index_or m j (0, 0)).0 p → ⊥
-    each (inl x) g = d (subst (λ j. IsDividedBy (slice_index_or m j (0, 0)).0 p) x g)
-    each (inr (inl x)) g = absurd (omega (arith, a, x))
-    each (inr (inr x)) g = n j (omega (arith, x)) b g
 
 -- what is linear by the variable that its leading monomial is
 pub linear_by : (p : List Term) (t : Term) (o : Option ℕ) → IsPoly p → Some t ≡ slice_get p 0 → MatchOption o ((v : ℕ) → t.monomial ≢ alone v) (λ v. t.monomial ≡ alone v) → MatchOption o ((v : ℕ) → IsLinearIn p v → ⊥) (IsLinearIn p)

@@ -20,7 +20,7 @@ use Rattle.sparse_poly.specs.Reads.{degree_in, main_variable}
 use Rattle.sparse_poly.proofs.Descending.{all_map}
 use Rattle.sparse_poly.proofs.Ordered.{main_variable-leading}
 use Rattle.case_rules.specs.Cases.{CaseState, poly, count}
-use Rattle.case_rules.specs.Rules.{None_has, IsLinearIn, IsOtherWith, IsLinearAt, HasMain, IsPaired, IsOtherMain}
+use Rattle.case_rules.specs.Rules.{IsLinearIn, IsOtherWith, IsLinearAt, HasMain, IsPaired, IsOtherMain}
 use Rattle.case_rules.proofs.EndsBelong.{below_at}
 use Rattle.case_rules.proofs.Regular.{polys_at, polys_length}
 use Rattle.case_split.specs.Found.{None_below, AreInOrder, HaveMain, IsPair, IsFirstWith}
@@ -179,9 +179,6 @@ module _ (c : CaseState) (s : AreInOrder c) where
       each (inr (inl z)) = absurd (omega (arith, l, z))
       each (inr (inr z)) = n a b w (omega (arith, z)) k x y
 
-  pub none_paired : (i : ℕ) → i ≤ 1 → None_paired_from c i → None_has (IsPaired c)
-  none_paired i l n v h = let a = h.apart in n h.first h.second v (omega (arith, l, a)) a h.first_has h.second_has
-
   pub paired_at : (i j p v : ℕ) → i ≡ j + 1 → None_paired_from c (i + 1) → HasMain c v i → HasMain c v j → IsFirstWith c v j p → IsPair c (p + 1) p v
   paired_at i j p v g n h k f = record {
     highest = record {
@@ -225,20 +222,6 @@ module _ (c : CaseState) (s : AreInOrder c) where
       below o a x (inl e) = x.other e
       below o a x (inr (inl e)) = f.before o e x.has
       below o a x (inr (inr e)) = absurd (omega (arith, a, e))
-
-  pub have_itself : (v i : ℕ) → HasMain c v i → Have c v i i
-  have_itself v i h = record { up_to = omega arith; have = λ j a b. let e : i ≡ j = omega (arith, a, b) in subst (HasMain c v) e h }
-
-  pub have_more : (v i p n : ℕ) → p ≡ n + 1 → Have c v i p → main_variable (poly c n) ≡ Some v → Have c v i n
-  have_more v i p n e h m = record { up_to = (let u = h.up_to in omega (arith, e, u)); have = λ j a b. at j a b (cases_order j n) }
-    where
-      at : (j : ℕ) → n ≤ j → j ≤ i → (j ≡ n) ⊎ ((j < n) ⊎ (n < j)) → HasMain c v j
-      at j a b (inl x) = let l = (h.have i h.up_to (omega arith)).place in record { place = omega (arith, b, l); main = ap (λ j. main_variable (poly c j)) x ∙ m }
-      at j a b (inr (inl x)) = absurd (omega (arith, a, x))
-      at j a b (inr (inr x)) = h.have j (omega (arith, e, x)) b
-
-  pub first_of_all : (v i : ℕ) → Have c v i 0 → IsFirstWith c v i 0
-  first_of_all v i h = record { up_to = h.up_to; have = h.have; before = λ j a x. absurd (omega (arith, a)) }
 
   pub first_here : (v i p n : ℕ) → p ≡ n + 1 → HaveMain c → Have c v i p → main_variable (poly c n) ≢ Some v → IsFirstWith c v i p
   first_here v i p n e m h d = record { up_to = h.up_to; have = h.have; before = before }

@@ -18,7 +18,7 @@ use Rattle.derive_lines.specs.Refuting.{Refutes}
 use Rattle.refute_cert.specs.Parts.{RefutationParts}
 use Rattle.refute_cert.specs.Cone.{IsCone}
 use Rattle.leaf_cert.specs.Parts.{LeafParts}
-use Rattle.leaf_cert.specs.Leaves.{GoodLeaf, IsLeaf}
+use Rattle.leaf_cert.specs.Leaves.{GoodLeaf}
 use Rattle.leaf_cert.specs.declared.ends.LeafEnd.{LeafEnd}
 use Rattle.leaf_cert.specs.declared.ends.LeafEnd.TheVariants as leaf_end
 use Rattle.leaf_cert.specs.declared.ends.OpenCause.{OpenCause}
@@ -65,14 +65,6 @@ tail_stopped_by c s i fault stop why v h n f m e = each fault h n f
     each OutOfMemory h n g = absurd (n refl)
     each (Degree w) h n g = stopped (Degree w) h g
     each (Heavy w) h n g = stopped (Heavy w) h g
-
--- a leaf is its parts
-pub same_leaf : (root : List (List Term)) (c : CaseState) (ds : List Decision) (ls : List Line) (es : List (List Term)) (end : LeafEnd) (leaf : LeafParts) → ds ≡ c.decisions → ls ≡ c.lines → es ≡ polys c → IsLeaf root ds ls es end leaf → leaf ≡ leaf_of c end
-same_leaf root c ds ls es end leaf d l p h =
-    ap (λ x. let o : LeafParts = record { decisions = x; lines = leaf.lines; equations = leaf.equations; end = leaf.end } in o) (h.decisions_are ∙ d) ∙
-    ap (λ x. let o : LeafParts = record { decisions = c.decisions; lines = x; equations = leaf.equations; end = leaf.end } in o) (h.lines_are ∙ l) ∙
-    ap (λ x. let o : LeafParts = record { decisions = c.decisions; lines = c.lines; equations = x; end = leaf.end } in o) (h.equations_are ∙ p) ∙
-    ap (λ x. let o : LeafParts = record { decisions = c.decisions; lines = c.lines; equations = polys c; end = x } in o) h.end_is
 
 pub same_good : (root : List (List Term)) (c : CaseState) (ds : List Decision) (ls : List Line) (es : List (List Term)) (end : LeafEnd) → ds ≡ c.decisions → ls ≡ c.lines → es ≡ polys c → GoodLeaf root (leaf_of c end) → GoodLeaf root (record { decisions = ds; lines = ls; equations = es; end = end })
 same_good root c ds ls es end d l p g =

@@ -7,7 +7,7 @@ ghost use Rattle.case_split.specs.Found.{None_below, IsSomePlace, IsLeftOf, IsMo
 ghost use Rattle.case_split.specs.Searched.{IsPassed, IsPassedBut, IsSearched};
 
 use crate::rules::Operands;
-use crate::variables::{contains_variable, linear_in};
+use crate::variables::linear_in;
 use case_state::Case;
 
 /// The first equations, of which at most one contains a variable.
@@ -87,7 +87,7 @@ fn other_from(case: &Case, p: u64, var: u32, from: u64) -> Option<u64>
 {
     let equations = case.equations();
     for q in from..equations.len() {
-        if equations.may_contain(q, var) && contains_variable(equations.at(q), var) {
+        if equations.contains(q, var) {
             return Some(q);
         }
     }
@@ -121,7 +121,7 @@ pub fn passed_after(case: &Case, passed: Passed, at: Option<u64>) -> Passed
     let Some(i) = at else {
         return passed;
     };
-    if i < passed.first && contains_variable(case.equations().at(i), passed.var) {
+    if i < passed.first && case.equations().contains(i, passed.var) {
         return Passed {
             var: passed.var,
             first: i,

@@ -10,9 +10,10 @@ ghost use Rattle.case_split.specs.Searched.{IsSearched};
 
 use crate::linear::{Progress, linear_move};
 use crate::pairs::pair;
-use crate::variables::{is_variable, lowest_dividing};
+use crate::variables::is_variable;
 use case_rules::Move;
 use case_state::Case;
+use case_system::lowest_dividing;
 use char_set::decided;
 use sparse_poly::Poly;
 use std::alloc::{AllocError, Global};
@@ -63,10 +64,7 @@ fn factor_move(case: &Case) -> Option<u32>
 {
     let equations = case.equations();
     for i in 0..equations.len() {
-        if !equations.may_be_divided(i) {
-            continue;
-        }
-        let Some(var) = lowest_dividing(equations.at(i)) else {
+        let Some(var) = equations.lowest_dividing(i) else {
             continue;
         };
         if is_variable(equations.at(i)) {

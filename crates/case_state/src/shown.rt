@@ -1,10 +1,11 @@
 //! The parts of a case, as lists that are shown.
 
-ghost use Rattle.std.specs.Prelude.{◌≡◌, ◌<◌, ℕ, false, IfOk, length, slice_get};
+ghost use Rattle.std.specs.Prelude.{◌≡◌, ◌≢◌, ◌<◌, ◌↔◌, [], IsTrue, IfOk, MatchOption, length, slice_get};
 ghost use Rattle.std.specs.declared.option.Option.TheVariants.{Some};
 ghost use Rattle.sparse_poly.specs.Reads.{degree_in};
 ghost use Rattle.sparse_poly.specs.Clearing.{IsDividedBy};
 ghost use Rattle.case_rules.specs.Cases.{equation_at, polys_of};
+ghost use Rattle.case_rules.specs.Rules.{None_has, IsLowestDividing};
 
 use crate::copies::{copied_decisions, polys_of};
 use case_rules::Equation;
@@ -122,22 +123,23 @@ impl<'a> Equations<'a> {
         equation(self.system.equations(), i).item
     }
 
-    /// Whether a variable may occur in the equation at a place; mostly it does where this is so, and it is told without reading the polynomial.
+    /// Whether a variable occurs in the equation at a place. It is mostly told without reading the polynomial where the variable does not occur.
     #[inline(always)]
-    pub fn may_contain(&self, i: u64, var: u32) -> bool
+    pub fn contains(&self, i: u64, var: u32) -> bool
         requires { i < length self.now }
-        ensures { result ≡ false → degree_in var (equation_at self.now i).poly ≡ 0 }
+        ensures { IsTrue result ↔ (0 < degree_in var (equation_at self.now i).poly) }
     {
-        self.system.may_contain(i, var)
+        self.system.contains(i, var)
     }
 
-    /// Whether a variable may divide the equation at a place; mostly one does where this is so, and it is told without reading the polynomial.
+    /// The lowest variable that divides the equation at a place. It is mostly told without reading the polynomial where none divides.
     #[inline(always)]
-    pub fn may_be_divided(&self, i: u64) -> bool
-        requires { i < length self.now }
-        ensures { result ≡ false → (v : ℕ) → IsDividedBy v (equation_at self.now i).poly → ⊥ }
+    pub fn lowest_dividing(&self, i: u64) -> Option<u32>
+        requires place { i < length self.now }
+        requires nonzero { (equation_at self.now i).poly ≢ [] }
+        ensures { MatchOption result (None_has (λ v. IsDividedBy v (equation_at self.now i).poly)) (IsLowestDividing (equation_at self.now i).poly) }
     {
-        self.system.may_be_divided(i)
+        self.system.lowest_dividing(i)
     }
 }
 

@@ -1,5 +1,6 @@
 pub mod BeingCleared
 pub mod Counting
+mod Dividing
 mod Outlining
 mod Joining
 mod Marking

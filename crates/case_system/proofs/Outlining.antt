@@ -1,7 +1,7 @@
 -- Bits of variables.
 use Rattle.std.specs.Prelude.{◌≡◌, ◌≢◌, ◌<◌, ◌⊎◌, ◌*◌, ◌%◌, ◌^◌, ◌==◌, ℕ, zero, suc, true, false, if◌then◌else◌, List, ◌∷◌, refl}
 use mathlib.Core.Logic.{inl, inr}
-use Rattle.std.proofs.Common.{arith, sym, ◌∙◌, subst, ap, w64}
+use Rattle.std.proofs.Common.{arith, ◌∙◌, subst, ap, w64}
 use Rattle.std.specs.Int.{bit_at}
 use Rattle.std.specs.Int.Bits.{bit_or, bit_and}
 use Rattle.std.proofs.lemmas.Bool.Decides.{eqb_tells}
@@ -10,8 +10,7 @@ use Rattle.monomial.specs.Monomials.{exponent}
 use Rattle.sparse_poly.specs.declared.Term.{Term}
 use Rattle.sparse_poly.specs.Reads.{degree_in}
 use Rattle.sparse_poly.specs.Clearing.{IsDividedBy}
-use Rattle.case_system.specs.Outlines.{HasBit, HasBits, IsOutlineOf}
-use Rattle.case_system.specs.declared.outline.Outline.{Outline}
+use Rattle.case_system.specs.Outlines.{HasBit, HasBits}
 
 -- a bit of one of two sets is in both together, and a bit of both in what they share
 pub bit_left : (a b v : ℕ) → HasBit a v → HasBit (bit_or a b) v
@@ -65,16 +64,9 @@ next_power v bits left q rest e (inr l) = each (first_or_other q rest v (subst (
 pub all_bits : (v : ℕ) → HasBit 18446744073709551615 v
 all_bits v = bit_at_ones 64 (v % 64) (omega arith)
 
--- what a missing bit tells
-pub not_contained : (p : List Term) (o : Outline) (v : ℕ) → IsOutlineOf p o → bit_at o.some (v % 64) ≡ 0 → degree_in v p ≡ 0
-not_contained p o v i z = each (degree_in v p) refl
-  where
-    each : (n : ℕ) → n ≡ degree_in v p → degree_in v p ≡ 0
-    each zero e = sym e
-    each (suc n) e = let one = i.some v (omega (arith, e)) in absurd (omega (arith, one, z))
-
-pub not_divided : (p : List Term) (o : Outline) → IsOutlineOf p o → o.each ≡ 0 → (v : ℕ) → IsDividedBy v p → ⊥
-not_divided p o i z v d =
-    let one : bit_at 0 (v % 64) ≡ 1 = subst (λ b. bit_at b (v % 64) ≡ 1) z (i.each v d) in
+-- a set without bits has no variable
+pub no_bit : (bits v : ℕ) → bits ≡ 0 → HasBit bits v → ⊥
+no_bit bits v z h =
+    let one : bit_at 0 (v % 64) ≡ 1 = subst (λ b. bit_at b (v % 64) ≡ 1) z h in
     let none = bit_at-zero (v % 64) in
     omega (arith, one, none)

@@ -9,10 +9,11 @@ mod kept;
 mod lines;
 mod outline;
 mod system;
+mod variables;
 
 pub use conditions::Conditions;
 pub use copies::copied_polys;
 pub use kept::item_of;
 pub use lines::{CaseLines, copied_lines};
-pub use outline::Outline;
 pub use system::System;
+pub use variables::lowest_dividing;

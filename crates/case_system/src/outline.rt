@@ -1,7 +1,6 @@
 //! Polynomials at a glance.
-ghost use Rattle.std.specs.Prelude.{◌≡◌, ◌%◌, false};
-ghost use Rattle.std.specs.Int.{bit_at};
-ghost use Rattle.case_system.specs.Outlines.{IsOutlineOf, HasBits};
+ghost use Rattle.std.specs.Prelude.{◌≢◌, ◌↔◌, IsTrue};
+ghost use Rattle.case_system.specs.Outlines.{IsOutlineOf, HasBit, HasBits};
 
 use monomial::Monomial;
 use sparse_poly::{Poly, Term};
@@ -26,16 +25,16 @@ impl Outline {
         outline_of(poly.terms())
     }
 
-    /// Whether a variable may occur.
+    /// Whether a variable may occur: its bit is one of some term.
     pub fn may_contain(self, var: u32) -> bool
-        ensures { result ≡ false → bit_at self.some (var % 64) ≡ 0 }
+        ensures { IsTrue result ↔ HasBit self.some var }
     {
         (self.some >> (var % BITS)) & 1 == 1
     }
 
-    /// Whether a variable may divide the polynomial.
+    /// Whether a variable may divide the polynomial: some bit is one of each term.
     pub fn may_be_divided(self) -> bool
-        ensures { result ≡ false → self.each ≡ 0 }
+        ensures { IsTrue result ↔ self.each ≢ 0 }
     {
         self.each != 0
     }

@@ -1,9 +1,10 @@
 //! Equations under known conditions.
-ghost use Rattle.std.specs.Prelude.{◌≡◌, ◌<◌, ℕ, [], false, IfOk, OnErr, length, remove};
+ghost use Rattle.std.specs.Prelude.{◌≡◌, ◌≢◌, ◌<◌, ◌↔◌, [], IsTrue, IfOk, OnErr, MatchOption, length, remove};
 ghost use Rattle.sparse_poly.specs.Reads.{degree_in};
 ghost use Rattle.sparse_poly.specs.Clearing.{IsDividedBy};
 ghost use Rattle.case_rules.specs.Cases.{equation_at};
 ghost use Rattle.case_rules.specs.Kept.{added};
+ghost use Rattle.case_rules.specs.Rules.{None_has, IsLowestDividing};
 ghost use Rattle.case_system.specs.Appending.{Grows};
 ghost use Rattle.case_system.specs.CaseLines.{all_lines};
 ghost use Rattle.case_system.specs.Clean.{IsBare};
@@ -14,6 +15,7 @@ use crate::conditions::Conditions;
 use crate::copies::copied_list;
 use crate::kept::{Kept, KeptList, add, new_facts, replace_at};
 use crate::lines::CaseLines;
+use crate::variables::{contains_variable, lowest_dividing};
 use case_rules::Equation;
 use sparse_poly::Poly;
 use std::alloc::{AllocError, Global};
@@ -76,22 +78,29 @@ impl System {
         &self.list.equations
     }
 
-    /// Whether a variable may occur in the equation at a place.
+    /// Whether a variable occurs in the equation at a place. The polynomial is read only where its outline has the variable.
     #[inline(always)]
-    pub fn may_contain(&self, i: u64, var: u32) -> bool
+    pub fn contains(&self, i: u64, var: u32) -> bool
         requires { i < length self.now.equations }
-        ensures { result ≡ false → degree_in var (equation_at self.now.equations i).poly ≡ 0 }
+        ensures { IsTrue result ↔ (0 < degree_in var (equation_at self.now.equations i).poly) }
     {
-        self.list.facts[i as usize].outline.may_contain(var)
+        let i = i as usize;
+        self.list.facts[i].outline.may_contain(var)
+            && contains_variable(&self.list.equations[i].poly, var)
     }
 
-    /// Whether a variable may divide the equation at a place.
+    /// The lowest variable that divides the equation at a place. The polynomial is read only where its outline has a variable of each term.
     #[inline(always)]
-    pub fn may_be_divided(&self, i: u64) -> bool
-        requires { i < length self.now.equations }
-        ensures { result ≡ false → (v : ℕ) → IsDividedBy v (equation_at self.now.equations i).poly → ⊥ }
+    pub fn lowest_dividing(&self, i: u64) -> Option<u32>
+        requires place { i < length self.now.equations }
+        requires nonzero { (equation_at self.now.equations i).poly ≢ [] }
+        ensures { MatchOption result (None_has (λ v. IsDividedBy v (equation_at self.now.equations i).poly)) (IsLowestDividing (equation_at self.now.equations i).poly) }
     {
-        self.list.facts[i as usize].outline.may_be_divided()
+        let i = i as usize;
+        if !self.list.facts[i].outline.may_be_divided() {
+            return None;
+        }
+        lowest_dividing(&self.list.equations[i].poly)
     }
 
     /// Removes the equation at a place.

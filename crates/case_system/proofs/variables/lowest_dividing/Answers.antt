@@ -4,8 +4,8 @@ use Rattle.std.specs.Prelude.{slice_get, slice_index_or}
 use Rattle.std.specs.declared.option.Option.TheVariants.{Some}
 use Rattle.sparse_poly.specs.Clearing.{IsDividedBy}
 use Rattle.case_rules.specs.Rules.{None_has, IsLowestDividing}
-use Rattle.case_split.proofs.LeadingTerms.{None_divides_from, none_divides, lowest_at, none_more_divides}
-use Rattle.case_split.proofs.variables.lowest_dividing.Goals as goal
+use Rattle.case_system.proofs.Dividing.{None_divides_from, no_variable_divides, lowest_at, none_more_divides}
+use Rattle.case_system.proofs.variables.lowest_dividing.Goals as goal
 
 pub returns-then-is_divided_by : goal.returns-then-is_divided_by
 returns-then-is_divided_by c =
@@ -29,4 +29,4 @@ pub returns : goal.returns
 returns c =
     let first : Some c.in-Some.last.now ≡ slice_get c.terms-terms.result.now (length c.terms-terms.result.now - 1) = search rules in
     let none : None_divides_from c.terms-terms.result.now c.in-Some.last.now.monomial 0 = subst (None_divides_from c.terms-terms.result.now c.in-Some.last.now.monomial) (omega (arith, c.powers-test.false)) c.powers.invariant.none in
-    subst (λ p. None_has (λ v. IsDividedBy v p)) c.terms-terms.ensures.value (none_divides c.terms-terms.result.now (length c.terms-terms.result.now - 1) c.in-Some.last.now first none)
+    subst (λ p. None_has (λ v. IsDividedBy v p)) c.terms-terms.ensures.value (no_variable_divides c.terms-terms.result.now (length c.terms-terms.result.now - 1) c.in-Some.last.now first none)

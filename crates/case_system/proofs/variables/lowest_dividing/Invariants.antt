@@ -1,6 +1,6 @@
 use Rattle.std.specs.Prelude.{◌≤◌, length}
-use Rattle.case_split.proofs.LeadingTerms.{None_divides_from}
-use Rattle.case_split.proofs.variables.lowest_dividing.Given as goal
+use Rattle.case_system.proofs.Dividing.{None_divides_from}
+use Rattle.case_system.proofs.variables.lowest_dividing.Given as goal
 
 abbrev pub invariant-powers : goal.invariant-powers
 invariant-powers l = record {
