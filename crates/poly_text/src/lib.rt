@@ -9,11 +9,14 @@
 
 mod factors;
 mod form;
+mod front;
 mod laws;
 mod numbers;
 mod order;
+mod places;
 mod raw;
 mod reader;
+mod standing;
 mod writer;
 
 pub use laws::{answer_law, spelling_law, text_law};
