@@ -2,10 +2,15 @@
 use crate::parts::Parts;
 use leaf_cert::Leaf;
 use std::alloc::Global;
+use std::io::Write;
 use table_tests::{Fault, push};
 
-/// Whether the parts are a leaf, or why not.
-pub fn answer(alloc: Global, question: &str) -> Result<Vec<u8>, Fault> {
+/// Appends whether the parts are a leaf, or why not.
+pub fn answer(alloc: Global, question: &str, into: &mut Vec<u8>) -> Result<(), Fault> {
+    push_checked(alloc, Parts::read(alloc, question, "\n")?, into)
+}
+
+fn push_checked(alloc: Global, parts: Parts, into: &mut Vec<u8>) -> Result<(), Fault> {
     let Parts {
         root,
         decisions,
@@ -13,11 +18,12 @@ pub fn answer(alloc: Global, question: &str) -> Result<Vec<u8>, Fault> {
         equations,
         leaf_end,
         ..
-    } = Parts::read(alloc, question, "\n")?;
-    let mut text = Vec::new(alloc);
+    } = parts;
     match Leaf::checked(alloc, &root, decisions, lines, equations, leaf_end) {
-        Ok(_) => push("Ok", &mut text)?,
-        Err(stop) => push(format!(in alloc; "{stop:?}")?.as_str(), &mut text)?,
+        Ok(_) => push("Ok", into),
+        Err(stop) => {
+            write!(into, "{stop:?}")?;
+            Ok(())
+        }
     }
-    Ok(text)
 }

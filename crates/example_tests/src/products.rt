@@ -2,20 +2,16 @@
 use crate::texts::{poly, push_answer};
 use sparse_poly::Poly;
 use std::alloc::Global;
-use table_tests::{Fault, both};
+use table_tests::{Fault, three};
 
-/// The answer to a question of the table.
-pub fn answer(alloc: Global, question: &str) -> Result<Vec<u8>, Fault> {
-    let (operation, operands) = both(question)?;
-    let (first, second) = both(operands)?;
+/// Appends the answer to a question of the table.
+pub fn answer(alloc: Global, question: &str, into: &mut Vec<u8>) -> Result<(), Fault> {
+    let (operation, first, second) = three(question)?;
     let p = poly(alloc, first)?;
     let q = poly(alloc, second)?;
-    let result = if operation == "product" {
-        p.times(&q)
-    } else {
-        Poly::combine(alloc, &p, &p, &p, &q)
+    let answer = match operation {
+        "product" => p.times(&q),
+        _ => Poly::combine(alloc, &p, &p, &p, &q),
     };
-    let mut text = Vec::new(alloc);
-    push_answer(alloc, result, &mut text)?;
-    Ok(text)
+    push_answer(alloc, answer, into)
 }
