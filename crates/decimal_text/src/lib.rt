@@ -4,6 +4,10 @@
 ghost use Rattle.std.specs.Prelude.{◌≡◌, ◌<◌, ◌≤◌, ◌^◌, ℕ, ℤ, List, ◌∷◌, true, decimal, MatchOption, MatchResult};
 ghost use Rattle.decimal_text.specs.Numerals.{is_digit, are_digits, is_numeral, number, IsNumeralFault, IsSignedText};
 
+mod laws;
+
+pub use laws::numeral_law;
+
 /// Why a text is no number in a range.
 #[derive(Clone, Copy, Debug, Drop, PartialEq, Eq)]
 pub enum NumeralFault {
@@ -107,8 +111,3 @@ pub fn read_signed(text: &[u8], max: u128) -> Option<i128>
         },
     }
 }
-
-/// What `decimal` writes of a number is a numeral, of that number. So a number has one such text.
-pub fn numeral_law()
-    ensures { (n : _) → n < 2 ^ 64 → (is_numeral (decimal n) ≡ true) × (number (decimal n) ≡ n) }
-{}

@@ -4,10 +4,13 @@
 ghost use Rattle.std.specs.Prelude.{◌≡◌, ◌≤◌, ◌<◌, ◌+◌, ◌%◌, ◌^◌, [], IfOk};
 ghost use Rattle.std.specs.Int.Bits.{bit_xor};
 ghost use Rattle.fusion_ring.specs.Faults.{IsRingOf};
-ghost use Rattle.ring_make.specs.Made.{IsPointed, IsCyclic, IsCube};
+ghost use Rattle.ring_make.specs.Made.{IsCyclic, IsCube};
 
-use fusion_ring::{Ring, Triple, channel_law, ring_answer_law};
+mod laws;
+
+use fusion_ring::{Ring, Triple, channel_law};
 use label_tuples::{all_singles, extended};
+pub use laws::made_law;
 use ring_file::Problem;
 use std::alloc::{AllocError, Global};
 
@@ -75,11 +78,4 @@ fn problem_of(alloc: Global, labels: u8, products: &[Triple]) -> Result<Problem,
         Ok(ring) => Ok(Problem::of(ring, Vec::new(alloc))),
         Err(_) => Err(AllocError),
     }
-}
-
-/// Each of these problems is one.
-pub fn made_law()
-    ensures { (n product first second : _) → IsPointed n product first → IsPointed n product second → first ≡ second }
-{
-    ring_answer_law();
 }
