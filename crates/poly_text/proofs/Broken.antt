@@ -14,18 +14,6 @@ use Rattle.poly_text.specs.Text.{term_text}
 use Rattle.monomial.specs.Monomials.{IsMonomial}
 use Rattle.poly_text.proofs.Ordered.{ordered_poly, monomial_of}
 
--- one term more is in order
-pub whole_term : (terms : List RawTerm) (at : ℕ) (before : Option (List (ℕ × ℕ))) (t : RawTerm) → at < length terms → monomial_disorder at before (get_or terms at t).powers.items ≡ None → first_disorder at before (map raw (drop at terms)) ≡ first_disorder (at + 1) (Some (get_or terms at t).powers.items) (map raw (drop (at + 1) terms))
-whole_term terms at before t h n =
-    ap (λ l. first_disorder at before (map raw l)) (drop_more terms at t h)
-    ∙ ap (λ o. or_next o (first_disorder (at + 1) (Some (get_or terms at t).powers.items) (map raw (drop (at + 1) terms)))) n
-
--- or not
-pub broken_term : (terms : List RawTerm) (at : ℕ) (before : Option (List (ℕ × ℕ))) (t : RawTerm) (d : Disorder) → at < length terms → monomial_disorder at before (get_or terms at t).powers.items ≡ Some d → first_disorder at before (map raw (drop at terms)) ≡ Some d
-broken_term terms at before t d h n =
-    ap (λ l. first_disorder at before (map raw l)) (drop_more terms at t h)
-    ∙ ap (λ o. or_next o (first_disorder (at + 1) (Some (get_or terms at t).powers.items) (map raw (drop (at + 1) terms)))) n
-
 -- k terms are in order, and the next is not
 record FirstBroken (n : ℕ) (before : Option (List (ℕ × ℕ))) (ts : List Term) (d : Disorder) : Type 0 where
   k : ℕ

@@ -401,12 +401,6 @@ factors_more u start text rest further powers new p e r l s b f n =
       shorter = omega (arith, a);
     }
 
--- without two bytes
-pub drop_two : (xs : List ℕ) → drop 1 (drop 1 xs) ≡ drop 2 xs
-drop_two [] = refl
-drop_two (c ∷ []) = refl
-drop_two (c ∷ d ∷ cs) = refl
-
 pub factor_shorter : (u : ℕ) (rest further : List ℕ) (p : ℕ × ℕ) → IsLive u FactorEnd rest → begins_with rest 42 ≡ true → IsFactorFront u (drop 2 rest) p further → length further < length rest
 factor_shorter u rest further p l b f = let a = ap length (star_read u rest l b).spelled in let z = f.shorter in omega (arith, a)
 

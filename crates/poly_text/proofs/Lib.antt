@@ -10,6 +10,5 @@ pub mod Ordered
 pub mod Read
 pub mod Answered
 pub mod Exists
-pub mod FirstOut
 pub mod Broken
 pub mod Values

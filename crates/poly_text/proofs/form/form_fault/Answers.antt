@@ -1,4 +1,4 @@
-use Rattle.std.proofs.Common.{rules, ◌≡◌, ◌≤◌, ◌<◌, ◌+◌, ◌∙◌, sym, ap, arith, take, length, get_or, true, false}
+use Rattle.std.proofs.Common.{rules, ◌≡◌, ◌≤◌, ◌<◌, ◌∙◌, sym, ap, arith, take, length, get_or, true, false}
 use Rattle.std.proofs.Math.Seq.{take-length}
 use Rattle.poly_text.specs.State.{Start}
 use Rattle.poly_text.specs.Form.{run, next, ends}

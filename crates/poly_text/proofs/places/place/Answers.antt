@@ -1,4 +1,4 @@
-use Rattle.std.proofs.Common.{◌≡◌, ◌≤◌, ◌+◌, ◌++◌, ◌∙◌, sym, ap, subst, map, length, take}
+use Rattle.std.proofs.Common.{◌≤◌, ◌+◌, ◌++◌, ◌∙◌, sym, ap, subst, map, length, take}
 use Rattle.monomial.specs.Monomials.{IsMonomial}
 use Rattle.sparse_poly.specs.Contributions.{IsPoly}
 use Rattle.sparse_poly.specs.declared.Term.{Term}

@@ -1,6 +1,6 @@
 use Rattle.std.proofs.Common.{◌≡◌, map}
 use Rattle.poly_text.specs.Raw.{raw}
-use Rattle.poly_text.proofs.Read.{all_taken, monomial_at}
+use Rattle.poly_text.proofs.Read.{monomial_at}
 use Rattle.poly_text.proofs.places.terms_of.Goals as goal
 
 pub from_powers-requires : goal.from_powers-requires

@@ -1,4 +1,4 @@
-use Rattle.std.proofs.Common.{rules, ◌≡◌, ◌++◌, ap, subst, drop, true, false}
+use Rattle.std.proofs.Common.{rules, ◌≡◌, ◌++◌, drop, true, false}
 use Rattle.poly_text.specs.Text.{more_factors}
 use Rattle.poly_text.specs.Fronts.{begins_with, IsFactorFront}
 use Rattle.poly_text.proofs.Fronts.{star_read, factors_more, factors_end}

@@ -1,4 +1,4 @@
-use Rattle.std.proofs.Common.{◌≡◌, ap, map, length, false, ◌==◌, ◌++◌, ◌∷◌, []}
+use Rattle.std.proofs.Common.{map, length}
 use Rattle.poly_text.specs.Raw.{raw}
 use Rattle.poly_text.specs.Fronts.{IsTermFront, after_sign}
 use Rattle.poly_text.proofs.Fronts.{sign_read, terms_more, not_empty, one_more}

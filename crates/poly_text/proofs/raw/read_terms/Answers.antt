@@ -1,5 +1,4 @@
-use Rattle.std.proofs.Common.{rules, ◌≡◌, true, map}
-use Rattle.poly_text.specs.Raw.{raw, IsRead}
+use Rattle.std.proofs.Common.{rules, ◌≡◌, true}
 use Rattle.poly_text.specs.Fronts.{begins_with}
 use Rattle.poly_text.proofs.Fronts.{zero_text}
 use Rattle.poly_text.proofs.raw.read_terms.Goals as goal

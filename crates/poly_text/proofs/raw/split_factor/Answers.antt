@@ -1,9 +1,8 @@
-use Rattle.std.proofs.Common.{rules, ◌≡◌, ◌≤◌, ◌<◌, ◌^◌, ◌∙◌, ap, arith, drop, true, false}
-use Rattle.sparse_poly.specs.Contributions.{max_coeff}
-use Rattle.poly_text.specs.State.{Letter, Caret}
+use Rattle.std.proofs.Common.{rules, ◌≡◌, ◌<◌, ◌^◌, ◌∙◌, ap, arith, true}
+use Rattle.poly_text.specs.State.{Caret}
 use Rattle.poly_text.specs.Numbers.{number_from, after_digits}
 use Rattle.poly_text.specs.Fronts.{begins_with, IsLive}
-use Rattle.poly_text.proofs.Fronts.{variable_read, exponent_read, caret_live, bare_factor, power_factor}
+use Rattle.poly_text.proofs.Fronts.{caret_live, bare_factor, power_factor}
 use Rattle.poly_text.proofs.Values.{variable_value, exponent_value}
 use Rattle.poly_text.proofs.raw.split_factor.Goals as goal
 

@@ -1,5 +1,5 @@
 use Rattle.std.proofs.Common.{◌≡◌, ◌≤◌, ◌^◌, ◌∙◌, sym, ap, arith, map, option_map, None, Some}
-use Rattle.poly_text.specs.Raw.{raw, IsRead}
+use Rattle.poly_text.specs.Raw.{raw}
 use Rattle.poly_text.specs.Order.{first_disorder}
 use Rattle.poly_text.specs.Broken.{breaks}
 use Rattle.poly_text.proofs.Broken.{after_order}
