@@ -143,9 +143,12 @@ fn push_difference(
     push_poly(&difference(alloc, symbols, &left, &right)?, into)
 }
 
-fn products(alloc: Global, lists: &[&[Symbol]]) -> Result<Vec<Product>, AllocError> {
+fn products(alloc: Global, lists: &[&[Symbol]]) -> Result<Vec<Product>, Fault> {
     let mut all = Vec::new(alloc);
     for symbols in lists {
+        if symbols.len() > 4 {
+            return Err(Fault::Form);
+        }
         all.push(Product::new(alloc, symbols)?)?;
     }
     Ok(all)
@@ -159,8 +162,10 @@ fn summand(alloc: Global, label: u8) -> Result<Option<Product>, AllocError> {
 }
 
 fn sides(alloc: Global) -> Result<Sides, AllocError> {
-    let left = products(alloc, &[&[R]])?;
-    let right = products(alloc, &[&[F]])?;
+    let mut left = Vec::new(alloc);
+    left.push(Product::new(alloc, &[R])?)?;
+    let mut right = Vec::new(alloc);
+    right.push(Product::new(alloc, &[F])?)?;
     Ok(Sides::new(left, right))
 }
 
