@@ -143,12 +143,9 @@ fn push_difference(
     push_poly(&difference(alloc, symbols, &left, &right)?, into)
 }
 
-fn products(alloc: Global, lists: &[&[Symbol]]) -> Result<Vec<Product>, Fault> {
+fn products(alloc: Global, lists: &[&[Symbol]]) -> Result<Vec<Product>, AllocError> {
     let mut all = Vec::new(alloc);
     for symbols in lists {
-        if symbols.len() > 4 {
-            return Err(Fault::Form);
-        }
         all.push(Product::new(alloc, symbols)?)?;
     }
     Ok(all)
@@ -162,10 +159,8 @@ fn summand(alloc: Global, label: u8) -> Result<Option<Product>, AllocError> {
 }
 
 fn sides(alloc: Global) -> Result<Sides, AllocError> {
-    let mut left = Vec::new(alloc);
-    left.push(Product::new(alloc, &[R])?)?;
-    let mut right = Vec::new(alloc);
-    right.push(Product::new(alloc, &[F])?)?;
+    let left = products(alloc, &[&[R]])?;
+    let right = products(alloc, &[&[F]])?;
     Ok(Sides::new(left, right))
 }
 
