@@ -13,33 +13,23 @@ use leaf_cert::{Leaf, LeafEnd, OpenCause, StepKind, Stop};
 use refute_cert::Refutation;
 use sparse_poly::Poly;
 use std::alloc::{AllocError, Global};
-use std::io::Write;
 use table_tests::{Fault, number, push, push_poly};
 
-/// Appends the end of a case. The question is a budget, the branches that lead to the case from the root case, `z` for the zero branch and any other
-/// letter for the nonzero one, or `-` for none, and the root, with ` | ` between.
-pub fn answer(alloc: Global, question: &str, into: &mut Vec<u8>) -> Result<(), Fault> {
+/// The end of a case. The question is a budget, the branches that lead to the case from the root case, `z` for the zero branch and any other letter for
+/// the nonzero one, or `-` for none, and the root, with ` | ` between.
+pub fn answer(alloc: Global, question: &str) -> Result<Vec<u8>, Fault> {
     let columns: Vec<&str> = question.split(" | ").collect(alloc)?;
     let [budget, path, root] = columns.as_slice() else {
         return Err(Fault::Form);
     };
     let budget = number(budget)?;
-    let path = if *path == "-" { "" } else { *path };
-    push_case(alloc, &polys(alloc, root)?, path, budget, into)
-}
-
-fn push_case(
-    alloc: Global,
-    root: &[Poly],
-    path: &str,
-    budget: u32,
-    into: &mut Vec<u8>,
-) -> Result<(), Fault> {
-    if !is_root_list(root)? {
+    let root = polys(alloc, root)?;
+    if !is_root_list(&root)? {
         return Err(Fault::Form);
     }
-    match end_at(alloc, root, path, budget)? {
-        Some(end) => push_outcome(&end, into),
+    let path = if *path == "-" { "" } else { *path };
+    match end_at(alloc, &root, path, budget)? {
+        Some(end) => text_of(alloc, &end),
         None => Err(Fault::Form),
     }
 }
@@ -96,50 +86,50 @@ fn branch_of(
     }
 }
 
-// Appends `split` with its polynomial, `dead` with the parts of the refutation, or those of the leaf.
-fn push_outcome(
-    end: &Outcome<SharedCase, Refutation, Leaf>,
-    into: &mut Vec<u8>,
-) -> Result<(), Fault> {
+// `split` with its polynomial, `dead` with the parts of the refutation, or `leaf` with those of the leaf.
+fn text_of(alloc: Global, end: &Outcome<SharedCase, Refutation, Leaf>) -> Result<Vec<u8>, Fault> {
+    let mut text = Vec::new(alloc);
     match end {
         Outcome::Split { by, .. } => {
-            push("split ", into)?;
-            push_poly(by, into)
+            push("split ", &mut text)?;
+            push_poly(by, &mut text)?;
         }
         Outcome::Dead(refutation) => {
-            push("dead\n", into)?;
-            push_refutation(refutation, into)
+            push("dead\n", &mut text)?;
+            push_refutation(alloc, refutation, &mut text)?;
         }
-        Outcome::Leaf(leaf) => push_leaf(leaf, into),
+        Outcome::Leaf(leaf) => push_leaf(alloc, leaf, &mut text)?,
     }
+    Ok(text)
 }
 
-fn push_leaf(leaf: &Leaf, into: &mut Vec<u8>) -> Result<(), Fault> {
+fn push_leaf(alloc: Global, leaf: &Leaf, into: &mut Vec<u8>) -> Result<(), Fault> {
     push_decisions(leaf.decisions(), into)?;
-    push_lines(leaf.lines(), into)?;
+    push_lines(alloc, leaf.lines(), into)?;
     for poly in leaf.equations() {
         push("eq ", into)?;
         push_poly(poly, into)?;
         push("\n", into)?;
     }
-    push_end(leaf.end(), into)
+    push_end(alloc, leaf.end(), into)
 }
 
-fn push_end(end: &LeafEnd, into: &mut Vec<u8>) -> Result<(), Fault> {
+fn push_end(alloc: Global, end: &LeafEnd, into: &mut Vec<u8>) -> Result<(), Fault> {
     match end {
         LeafEnd::Triangular => push("triangular", into),
         LeafEnd::Open(OpenCause::Budget) => push("budget", into),
-        LeafEnd::Open(OpenCause::Degree(stop)) => push_stop("degree", stop, into),
-        LeafEnd::Open(OpenCause::Coefficient(stop)) => push_stop("coefficient", stop, into),
+        LeafEnd::Open(OpenCause::Degree(stop)) => push_stop(alloc, "degree", stop, into),
+        LeafEnd::Open(OpenCause::Coefficient(stop)) => push_stop(alloc, "coefficient", stop, into),
     }
 }
 
-fn push_stop(cause: &str, stop: &Stop, into: &mut Vec<u8>) -> Result<(), Fault> {
+fn push_stop(alloc: Global, cause: &str, stop: &Stop, into: &mut Vec<u8>) -> Result<(), Fault> {
     let step = match stop.step {
         StepKind::Reduce => "reduce",
         StepKind::Tail => "tail",
     };
-    write!(into, "{cause} {step} {} ", stop.v)?;
+    let v = stop.v;
+    push(format!(in alloc; "{cause} {step} {v} ")?.as_str(), into)?;
     push_poly(&stop.q, into)?;
     push(" ", into)?;
     push_poly(&stop.p, into)

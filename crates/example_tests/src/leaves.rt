@@ -2,15 +2,10 @@
 use crate::parts::Parts;
 use leaf_cert::Leaf;
 use std::alloc::Global;
-use std::io::Write;
 use table_tests::{Fault, push};
 
-/// Appends whether the parts are a leaf, or why not.
-pub fn answer(alloc: Global, question: &str, into: &mut Vec<u8>) -> Result<(), Fault> {
-    push_checked(alloc, Parts::read(alloc, question, "\n")?, into)
-}
-
-fn push_checked(alloc: Global, parts: Parts, into: &mut Vec<u8>) -> Result<(), Fault> {
+/// Whether the parts are a leaf, or why not.
+pub fn answer(alloc: Global, question: &str) -> Result<Vec<u8>, Fault> {
     let Parts {
         root,
         decisions,
@@ -18,12 +13,11 @@ fn push_checked(alloc: Global, parts: Parts, into: &mut Vec<u8>) -> Result<(), F
         equations,
         leaf_end,
         ..
-    } = parts;
+    } = Parts::read(alloc, question, "\n")?;
+    let mut text = Vec::new(alloc);
     match Leaf::checked(alloc, &root, decisions, lines, equations, leaf_end) {
-        Ok(_) => push("Ok", into),
-        Err(stop) => {
-            write!(into, "{stop:?}")?;
-            Ok(())
-        }
+        Ok(_) => push("Ok", &mut text)?,
+        Err(stop) => push(format!(in alloc; "{stop:?}")?.as_str(), &mut text)?,
     }
+    Ok(text)
 }

@@ -31,29 +31,23 @@ struct Examples;
 
 impl Answers for Examples {
     fn answer(&self, alloc: Global, name: &str, question: &str) -> Result<Vec<u8>, Fault> {
-        let mut text = Vec::new(alloc);
-        push_answer(alloc, name, question, &mut text)?;
-        Ok(text)
-    }
-}
-
-fn push_answer(alloc: Global, name: &str, question: &str, into: &mut Vec<u8>) -> Result<(), Fault> {
-    match name {
-        "monomials" => monomials::answer(alloc, question, into),
-        "words" => words::answer(alloc, question, into),
-        "sums" => sums::answer(alloc, question, into),
-        "products" => products::answer(alloc, question, into),
-        "reads" => reads::answer(alloc, question, into),
-        "strips" => strips::answer(alloc, question, into),
-        "quotients" => quotients::answer(alloc, question, into),
-        "spellings" => spellings::answer(alloc, question, into),
-        "steps" => steps::answer(alloc, question, into),
-        "derivations" => derivations::answer(alloc, question, into),
-        "refutations" => refutations::answer(alloc, question, into),
-        "cones" => refutations::cone(alloc, question, into),
-        "leaves" => leaves::answer(alloc, question, into),
-        "ends" => cases::answer(alloc, question, into),
-        _ => Err(Fault::Form),
+        match name {
+            "monomials" => monomials::answer(alloc, question),
+            "words" => words::answer(alloc, question),
+            "sums" => sums::answer(alloc, question),
+            "products" => products::answer(alloc, question),
+            "reads" => reads::answer(alloc, question),
+            "strips" => strips::answer(alloc, question),
+            "quotients" => quotients::answer(alloc, question),
+            "spellings" => spellings::answer(alloc, question),
+            "steps" => steps::answer(alloc, question),
+            "derivations" => derivations::answer(alloc, question),
+            "refutations" => refutations::answer(alloc, question),
+            "cones" => refutations::cone(alloc, question),
+            "leaves" => leaves::answer(alloc, question),
+            "ends" => cases::answer(alloc, question),
+            _ => Err(Fault::Form),
+        }
     }
 }
 

@@ -1,9 +1,8 @@
 //! Monomials of few and many powers, and of great variables. The operand `greatest` stands for x4294967295^65535.
-use crate::texts::{monomial, push_degree, push_monomial};
+use crate::texts::{monomial, push_monomial};
 use monomial::{MonoFault, Monomial};
 use std::alloc::Global;
-use std::io::Write;
-use table_tests::{Fault, three};
+use table_tests::{Fault, both, push};
 
 fn operand(alloc: Global, text: &str) -> Result<Monomial, Fault> {
     if text == "greatest" {
@@ -20,15 +19,21 @@ fn push_product(
 ) -> Result<(), Fault> {
     match m.times(n) {
         Ok(product) => push_monomial(alloc, &product, into),
-        Err(MonoFault::Degree { var }) => push_degree(var, into),
+        Err(MonoFault::Degree { var }) => push(format!(in alloc; "degree {var}")?.as_str(), into),
         Err(MonoFault::OutOfMemory) => Err(Fault::OutOfMemory),
     }
 }
 
 // Their order, and whether the first divides the second.
-fn push_comparison(m: &Monomial, n: &Monomial, into: &mut Vec<u8>) -> Result<(), Fault> {
-    write!(into, "{:?} {}", m.order(n), m.divides(n))?;
-    Ok(())
+fn push_comparison(
+    alloc: Global,
+    m: &Monomial,
+    n: &Monomial,
+    into: &mut Vec<u8>,
+) -> Result<(), Fault> {
+    let order = m.order(n);
+    let divides = m.divides(n);
+    push(format!(in alloc; "{order:?} {divides}")?.as_str(), into)
 }
 
 fn push_quotient(
@@ -45,22 +50,29 @@ fn push_quotient(
 
 // The top of a copy, and the monomial without the top of another.
 fn push_rest(alloc: Global, m: &Monomial, n: &Monomial, into: &mut Vec<u8>) -> Result<(), Fault> {
-    write!(into, "{:?} ", m.copy()?.top())?;
+    let top = m.copy()?.top();
+    push(format!(in alloc; "{top:?} ")?.as_str(), into)?;
     let Some(var) = n.top() else {
         return Err(Fault::Form);
     };
     push_monomial(alloc, &m.without(var)?, into)
 }
 
-/// Appends the answer to a question of the table.
-pub fn answer(alloc: Global, question: &str, into: &mut Vec<u8>) -> Result<(), Fault> {
-    let (operation, first, second) = three(question)?;
+/// The answer to a question of the table.
+pub fn answer(alloc: Global, question: &str) -> Result<Vec<u8>, Fault> {
+    let (operation, operands) = both(question)?;
+    let (first, second) = both(operands)?;
     let m = operand(alloc, first)?;
     let n = operand(alloc, second)?;
-    match operation {
-        "product" => push_product(alloc, &m, &n, into),
-        "compare" => push_comparison(&m, &n, into),
-        "quotient" => push_quotient(alloc, &m, &n, into),
-        _ => push_rest(alloc, &m, &n, into),
+    let mut text = Vec::new(alloc);
+    if operation == "product" {
+        push_product(alloc, &m, &n, &mut text)?;
+    } else if operation == "compare" {
+        push_comparison(alloc, &m, &n, &mut text)?;
+    } else if operation == "quotient" {
+        push_quotient(alloc, &m, &n, &mut text)?;
+    } else {
+        push_rest(alloc, &m, &n, &mut text)?;
     }
+    Ok(text)
 }

@@ -4,7 +4,6 @@ use derive_lines::{Decision, Item, Line, Way};
 use leaf_cert::{LeafEnd, OpenCause, StepKind, Stop};
 use sparse_poly::Poly;
 use std::alloc::Global;
-use std::io::Write;
 use table_tests::{Fault, number, push, push_poly};
 
 /// Root equations, decisions, lines, equations and ends, as far as a text names them.
@@ -132,22 +131,22 @@ pub fn push_decisions(decisions: &[Decision], into: &mut Vec<u8>) -> Result<(), 
 }
 
 /// Appends lines.
-pub fn push_lines(lines: &[Line], into: &mut Vec<u8>) -> Result<(), Fault> {
+pub fn push_lines(alloc: Global, lines: &[Line], into: &mut Vec<u8>) -> Result<(), Fault> {
     for line in lines {
-        push_line(line, into)?;
+        push_line(alloc, line, into)?;
     }
     Ok(())
 }
 
-fn push_line(line: &Line, into: &mut Vec<u8>) -> Result<(), Fault> {
+fn push_line(alloc: Global, line: &Line, into: &mut Vec<u8>) -> Result<(), Fault> {
     let way = match line.way {
         Way::Fwd => "fwd ",
         Way::Back => "back ",
     };
     push(way, into)?;
-    push_reference(line.from, into)?;
+    push_reference(alloc, line.from, into)?;
     push(" ", into)?;
-    push_reference(line.by, into)?;
+    push_reference(alloc, line.by, into)?;
     for poly in [&line.l, &line.a, &line.m, &line.made] {
         push(" ", into)?;
         push_poly(poly, into)?;
@@ -156,12 +155,12 @@ fn push_line(line: &Line, into: &mut Vec<u8>) -> Result<(), Fault> {
 }
 
 /// Appends an item, or `-` for none.
-pub fn push_reference(item: Option<Item>, into: &mut Vec<u8>) -> Result<(), Fault> {
-    match item {
-        None => push("-", into)?,
-        Some(Item::Root(i)) => write!(into, "r{i}")?,
-        Some(Item::Decision(j)) => write!(into, "d{j}")?,
-        Some(Item::Line(k)) => write!(into, "l{k}")?,
-    }
-    Ok(())
+pub fn push_reference(alloc: Global, item: Option<Item>, into: &mut Vec<u8>) -> Result<(), Fault> {
+    let name = match item {
+        None => String::from_str(alloc, "-")?,
+        Some(Item::Root(i)) => format!(in alloc; "r{i}")?,
+        Some(Item::Decision(j)) => format!(in alloc; "d{j}")?,
+        Some(Item::Line(k)) => format!(in alloc; "l{k}")?,
+    };
+    push(name.as_str(), into)
 }

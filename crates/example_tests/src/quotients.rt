@@ -2,13 +2,9 @@
 use crate::texts::{poly, polys};
 use sparse_poly::Poly;
 use std::alloc::Global;
-use std::io::Write;
-use table_tests::{Fault, push, push_poly, three};
+use table_tests::{Fault, both, push, push_poly};
 
-fn push_quotient(whole: &Poly, divisors: &[Poly], into: &mut Vec<u8>) -> Result<(), Fault> {
-    let [divisor] = divisors else {
-        return Err(Fault::Form);
-    };
+fn push_quotient(whole: &Poly, divisor: &Poly, into: &mut Vec<u8>) -> Result<(), Fault> {
     if divisor.is_zero() {
         return Err(Fault::Form);
     }
@@ -26,18 +22,26 @@ fn push_cleared(whole: &Poly, units: &[Poly], into: &mut Vec<u8>) -> Result<(), 
 }
 
 fn push_unit(whole: &Poly, units: &[Poly], into: &mut Vec<u8>) -> Result<(), Fault> {
-    write!(into, "{}", whole.is_unit(units)?)?;
-    Ok(())
+    if whole.is_unit(units)? {
+        push("true", into)
+    } else {
+        push("false", into)
+    }
 }
 
-/// Appends the answer to a question of the table.
-pub fn answer(alloc: Global, question: &str, into: &mut Vec<u8>) -> Result<(), Fault> {
-    let (operation, first, second) = three(question)?;
+/// The answer to a question of the table.
+pub fn answer(alloc: Global, question: &str) -> Result<Vec<u8>, Fault> {
+    let (operation, operands) = both(question)?;
+    let (first, second) = both(operands)?;
     let whole = poly(alloc, first)?;
     let units = polys(alloc, second)?;
-    match operation {
-        "clear" => push_cleared(&whole, &units, into),
-        "unit" => push_unit(&whole, &units, into),
-        _ => push_quotient(&whole, &units, into),
+    let mut text = Vec::new(alloc);
+    if operation == "clear" {
+        push_cleared(&whole, &units, &mut text)?;
+    } else if operation == "unit" {
+        push_unit(&whole, &units, &mut text)?;
+    } else {
+        push_quotient(&whole, units.first().ok_or(Fault::Form)?, &mut text)?;
     }
+    Ok(text)
 }

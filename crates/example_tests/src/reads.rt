@@ -1,33 +1,49 @@
 //! Coefficients of powers, what is read of a polynomial, and the order of polynomials.
 use crate::texts::poly;
-use sparse_poly::Poly;
 use std::alloc::Global;
-use std::io::Write;
-use table_tests::{Fault, number, push_poly, three};
+use table_tests::{Fault, both, push, push_poly};
+
+// The coefficient of a power of variable 2.
+fn coefficient(alloc: Global, first: &str, exponent: &str) -> Result<Vec<u8>, Fault> {
+    let Ok(exponent) = exponent.parse::<u32>() else {
+        return Err(Fault::Form);
+    };
+    let mut text = Vec::new(alloc);
+    push_poly(&poly(alloc, first)?.coefficient_in(2, exponent)?, &mut text)?;
+    Ok(text)
+}
 
 // The number of terms, the main variable, the constant value, and the degree in variable 2 of a copy.
-fn push_read(whole: &Poly, into: &mut Vec<u8>) -> Result<(), Fault> {
+fn read(alloc: Global, first: &str) -> Result<Vec<u8>, Fault> {
+    let whole = poly(alloc, first)?;
     let count = whole.terms().len();
     let main = whole.main();
     let constant = whole.constant_value();
     let degree = whole.copy()?.degree_in(2);
-    write!(into, "{count} {main:?} {constant:?} {degree}")?;
-    Ok(())
+    let mut text = Vec::new(alloc);
+    push(
+        format!(in alloc; "{count} {main:?} {constant:?} {degree}")?.as_str(),
+        &mut text,
+    )?;
+    Ok(text)
 }
 
-fn push_order(alloc: Global, first: &Poly, second: &str, into: &mut Vec<u8>) -> Result<(), Fault> {
-    let order = first.order(&poly(alloc, second)?);
-    write!(into, "{order:?}")?;
-    Ok(())
+fn order(alloc: Global, first: &str, second: &str) -> Result<Vec<u8>, Fault> {
+    let order = poly(alloc, first)?.order(&poly(alloc, second)?);
+    let mut text = Vec::new(alloc);
+    push(format!(in alloc; "{order:?}")?.as_str(), &mut text)?;
+    Ok(text)
 }
 
-/// Appends the answer to a question of the table. A coefficient is that of a power of variable 2.
-pub fn answer(alloc: Global, question: &str, into: &mut Vec<u8>) -> Result<(), Fault> {
-    let (operation, first, second) = three(question)?;
-    let whole = poly(alloc, first)?;
-    match operation {
-        "coefficient" => push_poly(&whole.coefficient_in(2, number(second)?)?, into),
-        "read" => push_read(&whole, into),
-        _ => push_order(alloc, &whole, second, into),
+/// The answer to a question of the table.
+pub fn answer(alloc: Global, question: &str) -> Result<Vec<u8>, Fault> {
+    let (operation, operands) = both(question)?;
+    let (first, second) = both(operands)?;
+    if operation == "coefficient" {
+        coefficient(alloc, first, second)
+    } else if operation == "read" {
+        read(alloc, first)
+    } else {
+        order(alloc, first, second)
     }
 }

@@ -1,11 +1,11 @@
 //! Texts of polynomials, where there are 100 unknowns.
-use poly_text::{PolyTextFault, read_poly};
+use poly_text::{PolyTextFault, read_poly, write_poly};
 use std::alloc::Global;
-use std::io::Write;
-use table_tests::{Fault, push_poly};
+use table_tests::{Fault, push};
 
-/// Appends the text of the polynomial that a text is, between quotes, or why it is none.
-pub fn answer(alloc: Global, question: &str, into: &mut Vec<u8>) -> Result<(), Fault> {
+/// The text of the polynomial that a text is, between quotes, or why it is none.
+pub fn answer(alloc: Global, question: &str) -> Result<Vec<u8>, Fault> {
+    let mut text = Vec::new(alloc);
     let quoted = question
         .strip_prefix("'")
         .and_then(|rest| rest.strip_suffix("'"));
@@ -13,13 +13,9 @@ pub fn answer(alloc: Global, question: &str, into: &mut Vec<u8>) -> Result<(), F
         return Err(Fault::Form);
     };
     match read_poly(alloc, spelling.as_bytes(), 100) {
-        Ok(poly) => push_poly(&poly, into),
-        Err(PolyTextFault::OutOfMemory) => Err(Fault::OutOfMemory),
-        Err(fault) => push_fault(fault, into),
+        Ok(poly) => write_poly(&poly, &mut text)?,
+        Err(PolyTextFault::OutOfMemory) => return Err(Fault::OutOfMemory),
+        Err(fault) => push(format!(in alloc; "{fault:?}")?.as_str(), &mut text)?,
     }
-}
-
-fn push_fault(fault: PolyTextFault, into: &mut Vec<u8>) -> Result<(), Fault> {
-    write!(into, "{fault:?}")?;
-    Ok(())
+    Ok(text)
 }

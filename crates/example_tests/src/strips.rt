@@ -2,7 +2,7 @@
 use crate::texts::{poly, polys};
 use sparse_poly::Poly;
 use std::alloc::Global;
-use table_tests::{Fault, push, push_poly, three};
+use table_tests::{Fault, both, push, push_poly};
 
 fn push_strip(p: &Poly, units: &[Poly], into: &mut Vec<u8>) -> Result<(), Fault> {
     let stripped = p.strip(units)?;
@@ -11,12 +11,17 @@ fn push_strip(p: &Poly, units: &[Poly], into: &mut Vec<u8>) -> Result<(), Fault>
     push_poly(&stripped.rest, into)
 }
 
-/// Appends the answer to a question of the table.
-pub fn answer(alloc: Global, question: &str, into: &mut Vec<u8>) -> Result<(), Fault> {
-    let (operation, first, second) = three(question)?;
+/// The answer to a question of the table.
+pub fn answer(alloc: Global, question: &str) -> Result<Vec<u8>, Fault> {
+    let (operation, operands) = both(question)?;
+    let (first, second) = both(operands)?;
     let p = poly(alloc, first)?;
+    let units = polys(alloc, second)?;
+    let mut text = Vec::new(alloc);
     if operation == "strip" {
-        return push_strip(&p, &polys(alloc, second)?, into);
+        push_strip(&p, &units, &mut text)?;
+    } else {
+        push_poly(&p.primitive_part()?, &mut text)?;
     }
-    push_poly(&p.primitive_part()?, into)
+    Ok(text)
 }

@@ -2,7 +2,7 @@
 use crate::texts::{monomial, poly, push_answer};
 use sparse_poly::{Poly, PolyFault, Term};
 use std::alloc::Global;
-use table_tests::{Fault, three};
+use table_tests::{Fault, both};
 
 // The polynomial of the terms of two, one after the other.
 fn of_terms(alloc: Global, first: &Poly, second: &Poly) -> Result<Poly, PolyFault> {
@@ -33,23 +33,30 @@ fn least(alloc: Global, text: &str) -> Result<Result<Poly, PolyFault>, Fault> {
     Ok(Poly::from_terms(alloc, terms))
 }
 
-fn difference(alloc: Global, p: &Poly, q: &Poly) -> Result<Poly, PolyFault> {
+fn difference(alloc: Global, p: &Poly, q: &Poly) -> Result<Result<Poly, PolyFault>, Fault> {
     let one = Poly::constant(alloc, 1)?;
-    Poly::combine(alloc, &one, p, &one, q)
+    Ok(Poly::combine(alloc, &one, p, &one, q))
 }
 
-/// Appends the answer to a question of the table.
-pub fn answer(alloc: Global, question: &str, into: &mut Vec<u8>) -> Result<(), Fault> {
-    let (operation, first, second) = three(question)?;
-    if operation == "least" {
-        return push_answer(alloc, least(alloc, first)?, into);
-    }
+fn result(alloc: Global, question: &str) -> Result<Result<Poly, PolyFault>, Fault> {
+    let (operation, operands) = both(question)?;
+    let (first, second) = both(operands)?;
     let p = poly(alloc, first)?;
     let q = poly(alloc, second)?;
-    let answer = match operation {
-        "sum" => p.plus(&q),
-        "difference" => difference(alloc, &p, &q),
-        _ => of_terms(alloc, &p, &q),
-    };
-    push_answer(alloc, answer, into)
+    if operation == "sum" {
+        Ok(p.plus(&q))
+    } else if operation == "difference" {
+        difference(alloc, &p, &q)
+    } else if operation == "terms" {
+        Ok(of_terms(alloc, &p, &q))
+    } else {
+        least(alloc, first)
+    }
+}
+
+/// The answer to a question of the table.
+pub fn answer(alloc: Global, question: &str) -> Result<Vec<u8>, Fault> {
+    let mut text = Vec::new(alloc);
+    push_answer(alloc, result(alloc, question)?, &mut text)?;
+    Ok(text)
 }

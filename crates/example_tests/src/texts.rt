@@ -3,7 +3,6 @@ use monomial::Monomial;
 use poly_text::{PolyTextFault, read_poly};
 use sparse_poly::{Poly, PolyFault, Term};
 use std::alloc::Global;
-use std::io::Write;
 use table_tests::{Fault, push, push_poly};
 
 /// The polynomial of a text, in variables below 4,294,967,295.
@@ -46,16 +45,10 @@ pub fn push_monomial(alloc: Global, monomial: &Monomial, into: &mut Vec<u8>) -> 
     }
 }
 
-/// Appends that the degree in a variable is too great.
-pub fn push_degree(var: u32, into: &mut Vec<u8>) -> Result<(), Fault> {
-    write!(into, "degree {var}")?;
-    Ok(())
-}
-
 /// Appends the name of a fault, and its variable or monomial.
 pub fn push_fault(alloc: Global, fault: PolyFault, into: &mut Vec<u8>) -> Result<(), Fault> {
     match fault {
-        PolyFault::Degree { var } => push_degree(var, into),
+        PolyFault::Degree { var } => push(format!(in alloc; "degree {var}")?.as_str(), into),
         PolyFault::Heavy { monomial } => {
             push("heavy ", into)?;
             push_monomial(alloc, &monomial, into)

@@ -2,7 +2,6 @@
 use crate::texts::{monomial, push_monomial};
 use monomial::{Form, Layout, Monomial};
 use std::alloc::Global;
-use std::io::Write;
 use table_tests::{Fault, both, push};
 
 // In the layout of the variables 9 to 2: the word of a monomial, and the monomial of a word. In that of 65535 and 9 to 3: how a monomial is
@@ -17,8 +16,7 @@ fn layout(variables: [u32; 8]) -> Result<Layout, Fault> {
 fn push_word(alloc: Global, text: &str, into: &mut Vec<u8>) -> Result<(), Fault> {
     let layout = layout([9, 8, 7, 6, 5, 4, 3, 2])?;
     let word = monomial(alloc, text)?.word_in(&layout);
-    write!(into, "{word:?}")?;
-    Ok(())
+    push(format!(in alloc; "{word:?}")?.as_str(), into)
 }
 
 fn push_form(alloc: Global, monomial: &Monomial, into: &mut Vec<u8>) -> Result<(), Fault> {
@@ -50,12 +48,16 @@ fn push_laid(alloc: Global, text: &str, into: &mut Vec<u8>) -> Result<(), Fault>
     }
 }
 
-/// Appends the answer to a question of the table.
-pub fn answer(alloc: Global, question: &str, into: &mut Vec<u8>) -> Result<(), Fault> {
+/// The answer to a question of the table.
+pub fn answer(alloc: Global, question: &str) -> Result<Vec<u8>, Fault> {
     let (operation, operand) = both(question)?;
-    match operation {
-        "word" => push_word(alloc, operand, into),
-        "read" => push_read(alloc, operand, into),
-        _ => push_laid(alloc, operand, into),
+    let mut text = Vec::new(alloc);
+    if operation == "word" {
+        push_word(alloc, operand, &mut text)?;
+    } else if operation == "read" {
+        push_read(alloc, operand, &mut text)?;
+    } else {
+        push_laid(alloc, operand, &mut text)?;
     }
+    Ok(text)
 }

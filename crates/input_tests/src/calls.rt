@@ -1,14 +1,12 @@
 //! Calls that no table asks: those of tuples, of a ring, of standings, of differences, and of devices.
-use crate::devices::{push_two_reads, push_two_writes, scripted};
-use crate::rings::{ring_of, symbols_of};
+use crate::devices::{scripted, two_reads, two_writes};
 use braid_io::StdSource;
 use field_laws::Rationals;
-use fusion_ring::Triple;
+use fusion_ring::{Ring, Triple};
 use hexagon_gen::hexagon_law;
 use label_tuples::{all_fours, all_singles, all_triples, count_labels, extended, first_fault};
 use pentagon_gen::pentagon_law;
 use std::alloc::{AllocError, Global};
-use std::io::Write;
 use symbol_equations::{Product, Sides, difference, difference_law, differences, summands, trees};
 use symbol_index::{Symbol, Symbols};
 use table_tests::{Fault, push, push_poly};
@@ -29,49 +27,48 @@ const UNIT: Symbol = Symbol::Rsym { a: 0, b: 1, c: 1 };
 const NOT_ADMISSIBLE: Symbol = Symbol::Rsym { a: 1, b: 1, c: 1 };
 
 /// What a call answers.
-pub fn answer(alloc: Global, question: &str, into: &mut Vec<u8>) -> Result<(), Fault> {
+pub fn answer(alloc: Global, question: &str) -> Result<Vec<u8>, Fault> {
+    let mut text = Vec::new(alloc);
     match question {
-        "tuples" => push_tuples(alloc, into),
-        "cyclic ring of 12" => push_calls_of_ring(alloc, into),
-        "standings in the Fibonacci ring" => push_standings(alloc, into),
-        "differences" => push_differences(alloc, into),
-        "numbers of summands" => push_counts(alloc, into),
-        "unopened source" => push_two_reads(&mut StdSource::unopened(), into),
-        "laws of the rationals" => {
-            laws_of_the_rationals();
-            Ok(())
-        }
-        _ => push_scripted(alloc, question, into),
+        "tuples" => push(tuples(alloc)?.as_str(), &mut text)?,
+        "cyclic ring of 12" => push(calls_of_ring(alloc)?.as_str(), &mut text)?,
+        "standings in the Fibonacci ring" => push(standings(alloc)?.as_str(), &mut text)?,
+        "differences" => push_differences(alloc, &mut text)?,
+        "numbers of summands" => push(counts(alloc)?.as_str(), &mut text)?,
+        "unopened source" => push(two_reads(alloc, StdSource::unopened())?.as_str(), &mut text)?,
+        "laws of the rationals" => laws_of_the_rationals(),
+        _ => push(on_script(alloc, question)?.as_str(), &mut text)?,
+    }
+    Ok(text)
+}
+
+fn tuples(alloc: Global) -> Result<String, AllocError> {
+    let pairs = extended(alloc, &[2, 0], 3, |a, b| (a != b).then_some((a, b)))?;
+    let singles = all_singles(alloc, 2)?;
+    let triples = all_triples(alloc, 12)?;
+    let fours = all_fours(alloc, 12)?;
+    let fault = first_fault(&[4, 6, 7, 8, 9], |x| x % 2 == 0);
+    let count = count_labels(12, |x| x % 5 == 1);
+    format!(in alloc;
+        "{pairs:?} {singles:?} {:?} {:?} {fault:?} {count}",
+        triples.get(13),
+        fours.last()
+    )
+}
+
+// A ring, and its symbols.
+fn ring_of(alloc: Global, labels: u64, listed: &[Triple]) -> Result<(Ring, Symbols), Fault> {
+    let Ok(ring) = Ring::new(alloc, labels, listed) else {
+        return Err(Fault::Form);
+    };
+    match Symbols::new(alloc, &ring) {
+        Ok(symbols) => Ok((ring, symbols)),
+        Err(_) => Err(Fault::Form),
     }
 }
 
-// Pairs, single labels, one triple, the last four labels, a fault, and a count.
-fn push_tuples(alloc: Global, into: &mut Vec<u8>) -> Result<(), Fault> {
-    push_short_tuples(alloc, into)?;
-    push_long_tuples(alloc, into)?;
-    let fault = first_fault(&[4, 6, 7, 8, 9], |x| x % 2 == 0);
-    let count = count_labels(12, |x| x % 5 == 1);
-    write!(into, " {fault:?} {count}")?;
-    Ok(())
-}
-
-fn push_short_tuples(alloc: Global, into: &mut Vec<u8>) -> Result<(), Fault> {
-    let pairs = extended(alloc, &[2, 0], 3, |a, b| (a != b).then_some((a, b)))?;
-    write!(into, "{pairs:?} ")?;
-    let singles = all_singles(alloc, 2)?;
-    write!(into, "{singles:?} ")?;
-    Ok(())
-}
-
-fn push_long_tuples(alloc: Global, into: &mut Vec<u8>) -> Result<(), Fault> {
-    let triple = all_triples(alloc, 12)?.get(13).copied();
-    let last = all_fours(alloc, 12)?.last().copied();
-    write!(into, "{triple:?} {last:?}")?;
-    Ok(())
-}
-
-// The triples without the unit of the cyclic ring of 12.
-fn cyclic(alloc: Global) -> Result<Vec<Triple>, Fault> {
+// The number of labels, two channels, and two duals of a copy of the cyclic ring of 12.
+fn calls_of_ring(alloc: Global) -> Result<String, Fault> {
     let mut listed = Vec::new(alloc);
     for t in 13..144u64 {
         let (a, b) = (t / 12, t % 12);
@@ -83,31 +80,21 @@ fn cyclic(alloc: Global) -> Result<Vec<Triple>, Fault> {
             })?;
         }
     }
-    Ok(listed)
-}
-
-// The number of labels, two channels, and two duals of a copy of the cyclic ring of 12.
-fn push_calls_of_ring(alloc: Global, into: &mut Vec<u8>) -> Result<(), Fault> {
-    let ring = ring_of(alloc, 12, &cyclic(alloc)?)?.copy()?;
+    let (ring, _) = ring_of(alloc, 12, &listed)?;
+    let ring = ring.copy()?;
     let labels = ring.labels();
     let (is, is_not) = (ring.channel(7, 8, 3), ring.channel(7, 12, 7));
     if labels < 8 {
         return Err(Fault::Form);
     }
     let (unit, dual) = (ring.dual(0), ring.dual(7));
-    write!(into, "{labels} {is} {is_not} {unit} {dual}")?;
-    Ok(())
-}
-
-// The symbols of the ring of two labels with these triples.
-fn symbols_with(alloc: Global, listed: &[Triple]) -> Result<Symbols, Fault> {
-    symbols_of(alloc, &ring_of(alloc, 2, listed)?)
+    Ok(format!(in alloc; "{labels} {is} {is_not} {unit} {dual}")?)
 }
 
 // Where F(1,1,1,1;1,0), its G, S(1,1,1), a unit symbol, one that is not admissible and one with a label outside stand.
-fn push_standings(alloc: Global, into: &mut Vec<u8>) -> Result<(), Fault> {
+fn standings(alloc: Global) -> Result<String, Fault> {
     let listed = [Triple { a: 1, b: 1, c: 0 }, Triple { a: 1, b: 1, c: 1 }];
-    let symbols = symbols_with(alloc, &listed)?;
+    let (_, symbols) = ring_of(alloc, 2, &listed)?;
     let (a, b, c, d, e, f) = (1, 1, 1, 1, 1, 0);
     let first = symbols.standing(Symbol::Fsym { a, b, c, d, e, f });
     let second = symbols.standing(Symbol::Ginv { a, b, c, d, f, e });
@@ -115,40 +102,22 @@ fn push_standings(alloc: Global, into: &mut Vec<u8>) -> Result<(), Fault> {
     let unit = symbols.standing(UNIT);
     let not_admissible = symbols.standing(Symbol::Rsym { a: 0, b, c: 0 });
     let outside = symbols.standing(Symbol::Rsym { a: 0, b: 2, c: 2 });
-    write!(
-        into,
-        "{first:?} {second:?} {third:?} {unit:?} {not_admissible:?} {outside:?}"
-    )?;
-    Ok(())
+    Ok(format!(in alloc; "{first:?} {second:?} {third:?} {unit:?} {not_admissible:?} {outside:?}")?)
 }
 
 // A difference in the unknowns of the group of two elements, and one of two sides that are the same.
 fn push_differences(alloc: Global, into: &mut Vec<u8>) -> Result<(), Fault> {
-    let symbols = symbols_with(alloc, &[Triple { a: 1, b: 1, c: 0 }])?;
-    let left: [&[Symbol]; 3] = [&[R, F, UNIT, R], &[F, NOT_ADMISSIBLE], &[F]];
-    push_difference(alloc, &symbols, &left, &[&[], &[F]], into)?;
+    let (_, symbols) = ring_of(alloc, 2, &[Triple { a: 1, b: 1, c: 0 }])?;
+    let left = [
+        Product::new(alloc, &[R, F, UNIT, R])?,
+        Product::new(alloc, &[F, NOT_ADMISSIBLE])?,
+        Product::new(alloc, &[F])?,
+    ];
+    let right = [Product::new(alloc, &[])?, Product::new(alloc, &[F])?];
+    push_poly(&difference(alloc, &symbols, &left, &right)?, into)?;
     push(" ", into)?;
-    push_difference(alloc, &symbols, &left[..1], &[&[F, R, UNIT, R]], into)
-}
-
-fn push_difference(
-    alloc: Global,
-    symbols: &Symbols,
-    left: &[&[Symbol]],
-    right: &[&[Symbol]],
-    into: &mut Vec<u8>,
-) -> Result<(), Fault> {
-    let left = products(alloc, left)?;
-    let right = products(alloc, right)?;
-    push_poly(&difference(alloc, symbols, &left, &right)?, into)
-}
-
-fn products(alloc: Global, lists: &[&[Symbol]]) -> Result<Vec<Product>, AllocError> {
-    let mut all = Vec::new(alloc);
-    for symbols in lists {
-        all.push(Product::new(alloc, symbols)?)?;
-    }
-    Ok(all)
+    let same = Product::new(alloc, &[F, R, UNIT, R])?;
+    push_poly(&difference(alloc, &symbols, &left[..1], &[same])?, into)
 }
 
 fn summand(alloc: Global, label: u8) -> Result<Option<Product>, AllocError> {
@@ -159,31 +128,30 @@ fn summand(alloc: Global, label: u8) -> Result<Option<Product>, AllocError> {
 }
 
 fn sides(alloc: Global) -> Result<Sides, AllocError> {
-    let left = products(alloc, &[&[R]])?;
-    let right = products(alloc, &[&[F]])?;
+    let mut left = Vec::new(alloc);
+    left.push(Product::new(alloc, &[R])?)?;
+    let mut right = Vec::new(alloc);
+    right.push(Product::new(alloc, &[F])?)?;
     Ok(Sides::new(left, right))
 }
 
 // How many trees there are, summands at each label but 1, and equations R = F at three labels.
-fn push_counts(alloc: Global, into: &mut Vec<u8>) -> Result<(), Fault> {
-    let ring = ring_of(alloc, 2, &[Triple { a: 1, b: 1, c: 0 }])?;
+fn counts(alloc: Global) -> Result<String, Fault> {
+    let (ring, symbols) = ring_of(alloc, 2, &[Triple { a: 1, b: 1, c: 0 }])?;
     let trees = trees(alloc, &ring)?.len();
     let summands = summands(alloc, 3, |h| summand(alloc, h))?.len();
-    write!(into, "{trees} {summands} ")?;
-    let symbols = symbols_of(alloc, &ring)?;
     let differences = differences(alloc, &symbols, &[0u8, 1, 2], |_| sides(alloc))?.len();
-    write!(into, "{differences}")?;
-    Ok(())
+    Ok(format!(in alloc; "{trees} {summands} {differences}")?)
 }
 
 // Two reads of a device with this script, and two writes of one with the same.
-fn push_scripted(alloc: Global, question: &str, into: &mut Vec<u8>) -> Result<(), Fault> {
+fn on_script(alloc: Global, question: &str) -> Result<String, Fault> {
     let Some(script) = question.strip_prefix("script ") else {
         return Err(Fault::Form);
     };
-    push_two_reads(&mut StdSource::new(scripted(alloc, script)?), into)?;
-    push(", ", into)?;
-    push_two_writes(scripted(alloc, script)?, into)
+    let reads = two_reads(alloc, StdSource::new(scripted(alloc, script)?))?;
+    let writes = two_writes(alloc, scripted(alloc, script)?)?;
+    Ok(format!(in alloc; "{reads}, {writes}")?)
 }
 
 fn laws_of_the_rationals() {

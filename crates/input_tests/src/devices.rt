@@ -5,7 +5,6 @@ ghost use Rattle.std.specs.Prelude.{◌≤◌, IfOk};
 use braid_io::{Sink, Source, StdSink, StdSource};
 use std::alloc::{AllocError, Global};
 use std::io::{self, ErrorKind, Read, Write};
-use table_tests::Fault;
 
 /// A device that answers each call by the next letter of its script: `i` that it was interrupted, a digit how many bytes it moved, and any other that it
 /// failed.
@@ -54,20 +53,19 @@ pub fn scripted(alloc: Global, script: &str) -> Result<Device, AllocError> {
     })
 }
 
-/// Appends the answers of two reads.
-pub fn push_two_reads(source: &mut StdSource<Device>, into: &mut Vec<u8>) -> Result<(), Fault> {
+/// The answers of two reads.
+pub fn two_reads(alloc: Global, source: StdSource<Device>) -> Result<String, AllocError> {
+    let mut source = source;
     let mut buffer = [0; 4];
     let first = source.read(&mut buffer);
     let second = source.read(&mut buffer);
-    write!(into, "{first:?} {second:?}")?;
-    Ok(())
+    format!(in alloc; "{first:?} {second:?}")
 }
 
-/// Appends the answers of two writes.
-pub fn push_two_writes(device: Device, into: &mut Vec<u8>) -> Result<(), Fault> {
+/// The answers of two writes.
+pub fn two_writes(alloc: Global, device: Device) -> Result<String, AllocError> {
     let mut sink = StdSink::new(device);
     let first = sink.write(b"abcd");
     let second = sink.write(b"abcd");
-    write!(into, "{first:?} {second:?}")?;
-    Ok(())
+    format!(in alloc; "{first:?} {second:?}")
 }

@@ -1,71 +1,72 @@
 //! Equations in the unknowns: pentagons, hexagons, inverses and gauges of rings of two labels. A ring is stated by its triples.
 
-ghost use Rattle.std.specs.Prelude.{◌≡◌, IfSome};
+ghost use Rattle.std.specs.Prelude.{◌≡◌, IfOk, IfSome};
 ghost use Rattle.gauge_fix.specs.Gauge.{IsFixable};
 
-use crate::rings::{ring_of, symbols_of, triples};
-use fusion_ring::{Ring, Triple};
+use crate::rings::triples;
+use fusion_ring::Ring;
 use gauge_fix::{gauges, inverses};
 use hexagon_gen::hexagons;
 use pentagon_gen::pentagons;
+use poly_text::write_poly;
 use sparse_poly::Poly;
-use std::alloc::{AllocError, Global};
-use std::io::Write;
+use std::alloc::Global;
 use symbol_index::{GaugeEntry, Standing, Symbol, Symbols};
-use table_tests::{Fault, numbers, push, push_poly};
+use table_tests::{Fault, numbers, push};
 
-/// Which equations of a ring.
-#[derive(Clone, Copy)]
-pub enum Equations {
-    Pentagons,
-    Hexagons,
-    Inverses,
-}
-
-/// Appends how many equations there are, and those that are not zero.
-pub fn answer(
-    alloc: Global,
-    asked: Equations,
-    question: &str,
-    into: &mut Vec<u8>,
-) -> Result<(), Fault> {
-    let ring = stated(alloc, question)?;
-    let symbols = symbols_of(alloc, &ring)?;
-    push_counted(alloc, &equations_of(alloc, asked, &ring, &symbols)?, into)
-}
-
-fn stated(alloc: Global, question: &str) -> Result<Ring, Fault> {
-    let row = numbers(alloc, question)?;
-    let listed = triples(alloc, &row)?;
-    ring_of(alloc, 2, &listed)
-}
-
-fn equations_of(
-    alloc: Global,
-    asked: Equations,
-    ring: &Ring,
-    symbols: &Symbols,
-) -> Result<Vec<Poly>, AllocError>
-    requires { symbols.now ≡ ring.now }
-{
-    match asked {
-        Equations::Pentagons => pentagons(alloc, ring, symbols),
-        Equations::Hexagons => hexagons(alloc, ring, symbols),
-        Equations::Inverses => inverses(alloc, ring, symbols),
+fn ring_of(alloc: Global, question: &str) -> Result<Ring, Fault> {
+    let listed = triples(alloc, &numbers(alloc, question)?)?;
+    match Ring::new(alloc, 2, &listed) {
+        Ok(ring) => Ok(ring),
+        Err(_) => Err(Fault::Form),
     }
 }
 
-/// Appends the equation of a value at F(1,1,1,1;0,0) in the ring of the group of two elements.
-pub fn gauge(alloc: Global, question: &str, into: &mut Vec<u8>) -> Result<(), Fault> {
+fn symbols_of(alloc: Global, ring: &Ring) -> Result<Symbols, Fault>
+    ensures { IfOk result (λ symbols. symbols ≡ ring.now) }
+{
+    match Symbols::new(alloc, ring) {
+        Ok(symbols) => Ok(symbols),
+        Err(_) => Err(Fault::Form),
+    }
+}
+
+/// How many pentagons there are, and those that are not zero.
+pub fn pentagons_of(alloc: Global, question: &str) -> Result<Vec<u8>, Fault> {
+    let ring = ring_of(alloc, question)?;
+    let symbols = symbols_of(alloc, &ring)?;
+    let polys = pentagons(alloc, &ring, &symbols)?;
+    counted(alloc, &polys)
+}
+
+/// How many hexagons there are, and those that are not zero.
+pub fn hexagons_of(alloc: Global, question: &str) -> Result<Vec<u8>, Fault> {
+    let ring = ring_of(alloc, question)?;
+    let symbols = symbols_of(alloc, &ring)?;
+    let polys = hexagons(alloc, &ring, &symbols)?;
+    counted(alloc, &polys)
+}
+
+/// How many equations of inverses there are, and those that are not zero.
+pub fn inverses_of(alloc: Global, question: &str) -> Result<Vec<u8>, Fault> {
+    let ring = ring_of(alloc, question)?;
+    let symbols = symbols_of(alloc, &ring)?;
+    let polys = inverses(alloc, &ring, &symbols)?;
+    counted(alloc, &polys)
+}
+
+/// The equation of a value at F(1,1,1,1;0,0) in the ring of the group of two elements.
+pub fn gauge_of(alloc: Global, question: &str) -> Result<Vec<u8>, Fault> {
+    let ring = ring_of(alloc, "1 1 0")?;
+    let symbols = symbols_of(alloc, &ring)?;
     let Ok(value) = question.parse::<i128>() else {
         return Err(Fault::Form);
     };
-    let ring = ring_of(alloc, 2, &[Triple { a: 1, b: 1, c: 0 }])?;
-    let symbols = symbols_of(alloc, &ring)?;
     let Some(entry) = entry_of(&symbols, value) else {
         return Err(Fault::Form);
     };
-    push_counted(alloc, &gauges(alloc, &symbols, &[entry])?, into)
+    let polys = gauges(alloc, &symbols, &[entry])?;
+    counted(alloc, &polys)
 }
 
 // The entry of a value at F(1,1,1,1;0,0), if it is an unknown.
@@ -89,31 +90,23 @@ fn entry_of(symbols: &Symbols, value: i128) -> Option<GaugeEntry>
     }
 }
 
-// Appends how many polynomials there are, and the texts of those that are not zero, in the order of texts.
-fn push_counted(alloc: Global, polys: &[Poly], into: &mut Vec<u8>) -> Result<(), Fault> {
-    write!(into, "{}:", polys.len())?;
-    let mut texts = texts_of(alloc, polys)?;
-    texts.sort()?;
-    for text in &texts {
-        push(" ", into)?;
-        into.extend_from_slice(text)?;
-    }
-    Ok(())
-}
-
-// The texts of the polynomials that are not zero.
-fn texts_of(alloc: Global, polys: &[Poly]) -> Result<Vec<Vec<u8>>, Fault> {
+// How many polynomials there are, and the texts of those that are not zero, in the order of texts.
+fn counted(alloc: Global, polys: &[Poly]) -> Result<Vec<u8>, Fault> {
     let mut texts = Vec::new(alloc);
     for poly in polys {
         if !poly.is_zero() {
-            texts.push(text_of(alloc, poly)?)?;
+            let mut text = Vec::new(alloc);
+            write_poly(poly, &mut text)?;
+            texts.push(text)?;
         }
     }
-    Ok(texts)
-}
-
-fn text_of(alloc: Global, poly: &Poly) -> Result<Vec<u8>, Fault> {
-    let mut text = Vec::new(alloc);
-    push_poly(poly, &mut text)?;
-    Ok(text)
+    texts.sort()?;
+    let mut all = Vec::new(alloc);
+    let count = polys.len();
+    push(format!(in alloc; "{count}:")?.as_str(), &mut all)?;
+    for text in &texts {
+        push(" ", &mut all)?;
+        all.extend_from_slice(text)?;
+    }
+    Ok(all)
 }

@@ -12,7 +12,6 @@ mod rings;
 mod streams;
 
 use braid_io::{StdSink, StdSource};
-use equations::Equations;
 use std::alloc::Global;
 use std::process::ExitCode;
 use table_tests::{Answers, Fault, exit_of, work_tables};
@@ -22,27 +21,21 @@ struct Examples;
 
 impl Answers for Examples {
     fn answer(&self, alloc: Global, name: &str, question: &str) -> Result<Vec<u8>, Fault> {
-        let mut text = Vec::new(alloc);
-        push_answer(alloc, name, question, &mut text)?;
-        Ok(text)
-    }
-}
-
-fn push_answer(alloc: Global, name: &str, question: &str, into: &mut Vec<u8>) -> Result<(), Fault> {
-    match name {
-        "calls" => calls::answer(alloc, question, into),
-        "reads" => streams::reading(alloc, question, into),
-        "writes" => streams::writing(alloc, question, into),
-        "rings" => rings::ring(alloc, question, into),
-        "symbols" => rings::symbols(alloc, question, into),
-        "pentagons" => equations::answer(alloc, Equations::Pentagons, question, into),
-        "hexagons" => equations::answer(alloc, Equations::Hexagons, question, into),
-        "inverses" => equations::answer(alloc, Equations::Inverses, question, into),
-        "gauges" => equations::gauge(alloc, question, into),
-        "problems" => problems::problem(alloc, question, into),
-        "roots" => problems::root(alloc, question, into),
-        "limits" => problems::with_limit(alloc, question, into),
-        _ => Err(Fault::Form),
+        match name {
+            "calls" => calls::answer(alloc, question),
+            "reads" => streams::reading(alloc, question),
+            "writes" => streams::writing(alloc, question),
+            "rings" => rings::ring(alloc, question),
+            "symbols" => rings::symbols(alloc, question),
+            "pentagons" => equations::pentagons_of(alloc, question),
+            "hexagons" => equations::hexagons_of(alloc, question),
+            "inverses" => equations::inverses_of(alloc, question),
+            "gauges" => equations::gauge_of(alloc, question),
+            "problems" => problems::problem(alloc, question),
+            "roots" => problems::root(alloc, question),
+            "limits" => problems::with_limit(alloc, question),
+            _ => Err(Fault::Form),
+        }
     }
 }
 

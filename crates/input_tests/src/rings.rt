@@ -1,12 +1,8 @@
 //! Fusion rings and their symbols.
-
-ghost use Rattle.std.specs.Prelude.{◌≡◌, IfOk};
-
-use fusion_ring::{Ring, RingFault, Triple};
+use fusion_ring::{Ring, Triple};
 use std::alloc::Global;
-use std::io::Write;
 use symbol_index::{Symbol, Symbols};
-use table_tests::{Fault, numbers};
+use table_tests::{Fault, numbers, push};
 
 /// The triples of three numbers each.
 pub fn triples(alloc: Global, numbers: &[u64]) -> Result<Vec<Triple>, Fault> {
@@ -21,51 +17,34 @@ pub fn triples(alloc: Global, numbers: &[u64]) -> Result<Vec<Triple>, Fault> {
     Ok(all)
 }
 
-/// The ring of a number of labels and listed triples.
-pub fn ring_of(alloc: Global, labels: u64, listed: &[Triple]) -> Result<Ring, Fault> {
-    match Ring::new(alloc, labels, listed) {
-        Ok(ring) => Ok(ring),
-        Err(_) => Err(Fault::Form),
-    }
-}
-
-/// The symbols of a ring.
-pub fn symbols_of(alloc: Global, ring: &Ring) -> Result<Symbols, Fault>
-    ensures { IfOk result (λ symbols. symbols ≡ ring.now) }
-{
-    match Symbols::new(alloc, ring) {
-        Ok(symbols) => Ok(symbols),
-        Err(_) => Err(Fault::Form),
-    }
-}
-
-// The ring that a number of labels and listed triples state, or its fault.
-fn stated(alloc: Global, question: &str) -> Result<Result<Ring, RingFault>, Fault> {
+/// The number of labels of the ring that a number of labels and listed triples state, or the fault.
+pub fn ring(alloc: Global, question: &str) -> Result<Vec<u8>, Fault> {
     let row = numbers(alloc, question)?;
     let [labels, listed @ ..] = row.as_slice() else {
         return Err(Fault::Form);
     };
-    let listed = triples(alloc, listed)?;
-    Ok(Ring::new(alloc, *labels, &listed))
+    let answer = Ring::new(alloc, *labels, &triples(alloc, listed)?).map(|ring| ring.labels());
+    let mut text = Vec::new(alloc);
+    push(format!(in alloc; "{answer:?}")?.as_str(), &mut text)?;
+    Ok(text)
 }
 
-/// Appends the number of labels of the ring that is stated, or the fault.
-pub fn ring(alloc: Global, question: &str, into: &mut Vec<u8>) -> Result<(), Fault> {
-    let answer = stated(alloc, question)?.map(|ring| ring.labels());
-    write!(into, "{answer:?}")?;
-    Ok(())
-}
-
-/// Appends how many unknowns the ring that is stated has that are F, and how many in all, or the fault.
-pub fn symbols(alloc: Global, question: &str, into: &mut Vec<u8>) -> Result<(), Fault> {
-    let Ok(ring) = stated(alloc, question)? else {
+/// How many unknowns a ring has that are F, and how many in all, or the fault.
+pub fn symbols(alloc: Global, question: &str) -> Result<Vec<u8>, Fault> {
+    let row = numbers(alloc, question)?;
+    let [labels, listed @ ..] = row.as_slice() else {
         return Err(Fault::Form);
     };
-    match Symbols::new(alloc, &ring) {
-        Ok(symbols) => write!(into, "{} {}", count_f(&symbols), symbols.count())?,
-        Err(fault) => write!(into, "{fault:?}")?,
-    }
-    Ok(())
+    let Ok(ring) = Ring::new(alloc, *labels, &triples(alloc, listed)?) else {
+        return Err(Fault::Form);
+    };
+    let answer = match Symbols::new(alloc, &ring) {
+        Ok(symbols) => format!(in alloc; "{} {}", count_f(&symbols), symbols.count())?,
+        Err(fault) => format!(in alloc; "{fault:?}")?,
+    };
+    let mut text = Vec::new(alloc);
+    push(answer.as_str(), &mut text)?;
+    Ok(text)
 }
 
 fn count_f(symbols: &Symbols) -> u32 {

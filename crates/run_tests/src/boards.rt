@@ -4,7 +4,7 @@ ghost use Rattle.std.specs.Prelude.{IfOk};
 ghost use Rattle.case_history.specs.History.{IsPending};
 ghost use Rattle.legal_history.specs.Legal.{IsEndOf};
 
-use case_ledger::{Board, Look, Reply};
+use case_ledger::{Board, Look};
 use case_rules::Outcome;
 use case_split::run_case;
 use case_state::{Case, SharedCase};
@@ -17,36 +17,48 @@ use ring_file::read_problem;
 use root_system::Root;
 use sparse_poly::Poly;
 use std::alloc::{AllocError, Global};
-use std::io::Write;
 use steal_workers::finish;
-use table_tests::{Fault, GROUP_OF_TWO, numbers, push_lines};
+use table_tests::{Fault, numbers, push};
 
-/// Appends what looks at cases answer, each before it is settled, and what settling it answers; and then how many cases are pending, the least of them, and
-/// what the check of the certificate answers. The question is the numbers of the cases.
-pub fn answer(alloc: Global, question: &str, into: &mut Vec<u8>) -> Result<(), Fault> {
+const PROBLEM: &str = "{\"labels\":2,\"products\":[[1,1,0]]}";
+
+/// What looks at cases answer, each before it is settled, and what settling it answers; and then how many cases are pending, the least of them, and what
+/// the check of the certificate answers. The question is the numbers of the cases.
+pub fn answer(alloc: Global, question: &str) -> Result<Vec<u8>, Fault> {
     let mut board = board_of(alloc)?;
+    let mut text = Vec::new(alloc);
     for n in &numbers(alloc, question)? {
-        push_look(&board, *n, into)?;
-        write!(into, "{:?}, ", settle(alloc, &mut board, *n)?)?;
+        push(look_of(alloc, &board, *n)?.as_str(), &mut text)?;
+        push(reply_of(alloc, &mut board, *n)?.as_str(), &mut text)?;
     }
-    push_end(alloc, &board, into)
+    let pending = board.pending();
+    let least = board.least_pending();
+    let certificate = board.certificate(alloc)?;
+    let accepted = accept(alloc, board.root(), &certificate);
+    push(
+        format!(in alloc; "{pending} {least:?} {accepted:?}")?.as_str(),
+        &mut text,
+    )?;
+    Ok(text)
 }
 
-/// Appends the text of the certificate, but for the end of its last line, where the cases of these numbers were settled in this order, and then all that
-/// were pending from the least on.
-pub fn finished(alloc: Global, question: &str, into: &mut Vec<u8>) -> Result<(), Fault> {
+/// The text of the certificate, but for the end of its last line, where the cases of these numbers were settled in this order, and then all that were
+/// pending from the least on.
+pub fn finished(alloc: Global, question: &str) -> Result<Vec<u8>, Fault> {
     let mut board = board_of(alloc)?;
     for n in &numbers(alloc, question)? {
-        let _reply = settle(alloc, &mut board, *n)?;
+        let _reply = reply_of(alloc, &mut board, *n)?;
     }
     finish(alloc, &mut board)?;
     let certificate = board.certificate(alloc)?;
-    push_lines(&write_certificate(alloc, &certificate)?, into)
+    let mut text = write_certificate(alloc, &certificate)?;
+    let _end = text.pop();
+    Ok(text)
 }
 
 // The board of the problem, with case 0 pending.
 fn board_of(alloc: Global) -> Result<Board, Fault> {
-    let Ok(problem) = read_problem(alloc, GROUP_OF_TWO.as_bytes()) else {
+    let Ok(problem) = read_problem(alloc, PROBLEM.as_bytes()) else {
         return Err(Fault::Form);
     };
     let Ok(root) = Root::new(alloc, &problem) else {
@@ -55,36 +67,23 @@ fn board_of(alloc: Global) -> Result<Board, Fault> {
     Ok(Board::new(alloc, root, 2_000)?)
 }
 
-// Appends what a look at case n answers; of a pending case the number of its decisions.
-fn push_look(board: &Board, n: u64, into: &mut Vec<u8>) -> Result<(), Fault> {
+// What a look at case n answers; of a pending case the number of its decisions.
+fn look_of(alloc: Global, board: &Board, n: u64) -> Result<String, AllocError> {
     match board.look(n)? {
         Look::Pending(case) => {
-            write!(into, "{n} pending {}: ", case.case().decisions().len())?;
+            let decisions = case.case().decisions().len();
+            format!(in alloc; "{n} pending {decisions}: ")
         }
-        Look::Settled { at } => write!(into, "{n} settled {at}: ")?,
-        Look::NoCase => write!(into, "{n} no case: ")?,
+        Look::Settled { at } => format!(in alloc; "{n} settled {at}: "),
+        Look::NoCase => format!(in alloc; "{n} no case: "),
     }
-    Ok(())
-}
-
-// Appends how many cases are pending, the least of them, and what the check of the certificate answers.
-fn push_end(alloc: Global, board: &Board, into: &mut Vec<u8>) -> Result<(), Fault> {
-    let certificate = board.certificate(alloc)?;
-    let accepted = accept(alloc, board.root(), &certificate);
-    write!(
-        into,
-        "{} {:?} {accepted:?}",
-        board.pending(),
-        board.least_pending()
-    )?;
-    Ok(())
 }
 
 // What settling case n answers.
-fn settle(alloc: Global, board: &mut Board, n: u64) -> Result<Reply, AllocError> {
+fn reply_of(alloc: Global, board: &mut Board, n: u64) -> Result<String, AllocError> {
     let outcome = end_of(alloc, board, n)?;
     match board.settle(alloc, n, outcome) {
-        Ok(reply) => Ok(reply),
+        Ok(reply) => format!(in alloc; "{reply:?}, "),
         Err(_) => Err(AllocError),
     }
 }

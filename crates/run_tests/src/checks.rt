@@ -1,81 +1,83 @@
 //! Checks of certificates in memory.
 use braid_io::{MemSink, MemSource};
-use memory_checks::{line_of, push_check};
-use std::alloc::Global;
-use std::io::Write;
-use table_tests::{Fault, ended, numbers, words};
+use check_run::{check_line, run_check};
+use field_laws::Rationals;
+use std::alloc::{AllocError, Global};
+use table_tests::{Fault, numbers, push};
 
-/// Appends the line of a check. The question is the problem, and below it the lines of the certificate.
-pub fn check(alloc: Global, question: &str, into: &mut Vec<u8>) -> Result<(), Fault> {
+/// The line of a check. The question is the problem, and below it the lines of the certificate.
+pub fn check(alloc: Global, question: &str) -> Result<Vec<u8>, Fault> {
     let Some((problem, lines)) = question.split_once("\n") else {
         return Err(Fault::Form);
     };
-    push_check(alloc, problem, ended(alloc, lines)?, into)
+    let mut certificate = lines.as_bytes().to_vec(alloc)?;
+    certificate.push(b'\n')?;
+    checked(alloc, problem, certificate)
 }
 
-/// Appends the same where the last line of the certificate has no end.
-pub fn check_unended(alloc: Global, question: &str, into: &mut Vec<u8>) -> Result<(), Fault> {
+/// The same where the last line of the certificate has no end.
+pub fn check_unended(alloc: Global, question: &str) -> Result<Vec<u8>, Fault> {
     let Some((problem, lines)) = question.split_once("\n") else {
         return Err(Fault::Form);
     };
-    push_check(alloc, problem, lines.as_bytes().to_vec(alloc)?, into)
+    checked(alloc, problem, lines.as_bytes().to_vec(alloc)?)
 }
 
-/// A source of bytes, eight a read, of which one read fails.
-pub fn failing_source(alloc: Global, bytes: &[u8], fails: u64) -> Result<MemSource, Fault> {
-    let bytes = bytes.to_vec(alloc)?;
-    Ok(MemSource::new(bytes, 8, vec![in alloc; fails]?))
-}
-
-/// A sink that takes eight bytes a write, of which one write fails.
-pub fn failing_sink(alloc: Global, fails: u64) -> Result<MemSink, Fault> {
-    Ok(MemSink::new(alloc, 4096, 8, vec![in alloc; fails]?)?)
-}
-
-/// The certificate of the trivial ring.
-pub const TRIVIAL: &[u8] =
-    b"braidcert 1\nunknowns 0\nequations 0\nbudget 5\nleaf 0 triangular\ndone 1\n";
-
-/// Appends the line of a check of the certificate of the trivial ring, and how many bytes it wrote. The question is how many words there are, and a read of
-/// the problem, one of the certificate and a write that fail.
-pub fn check_on_devices(alloc: Global, question: &str, into: &mut Vec<u8>) -> Result<(), Fault> {
-    let row = numbers(alloc, question)?;
-    let [count, first, second, write] = row.as_slice() else {
-        return Err(Fault::Form);
-    };
-    let mut problem = failing_source(alloc, b"{\"labels\":1,\"products\":[]}", *first)?;
-    let mut certificate = failing_source(alloc, TRIVIAL, *second)?;
-    let mut sink = failing_sink(alloc, *write)?;
-    push_outcome(
+// The line of a check with ample memory, and where something was written, that it was.
+fn checked(alloc: Global, problem: &str, certificate: Vec<u8>) -> Result<Vec<u8>, Fault> {
+    let mut problem = MemSource::new(problem.as_bytes().to_vec(alloc)?, 4096, Vec::new(alloc));
+    let mut certificate = MemSource::new(certificate, 4096, Vec::new(alloc));
+    let mut sink = MemSink::new(alloc, 4096, 4096, Vec::new(alloc))?;
+    let words = words_of(alloc, 2)?;
+    let status = run_check::<Rationals, _, _, _>(
         alloc,
-        *count,
+        &words,
         &mut problem,
         &mut certificate,
         &mut sink,
-        into,
-    )
-}
-
-fn push_outcome(
-    alloc: Global,
-    count: u64,
-    problem: &mut MemSource,
-    certificate: &mut MemSource,
-    sink: &mut MemSink,
-    into: &mut Vec<u8>,
-) -> Result<(), Fault> {
-    let words = words(alloc, files(count))?;
-    let line = line_of(alloc, &words, problem, certificate, sink)?;
-    write!(into, "{line}, {}", sink.written().len())?;
-    Ok(())
-}
-
-// So many words, three at most.
-fn files(count: u64) -> &'static str {
-    match count {
-        0 => "",
-        1 => "file",
-        2 => "file file",
-        _ => "file file file",
+    );
+    let mut text = Vec::new(alloc);
+    push(check_line(alloc, &status)?.as_str(), &mut text)?;
+    if !sink.written().is_empty() {
+        push(", written", &mut text)?;
     }
+    Ok(text)
+}
+
+fn words_of(alloc: Global, count: u64) -> Result<Vec<String>, AllocError> {
+    let mut words = Vec::new(alloc);
+    for _ in 0..count {
+        words.push(String::from_str(alloc, "file")?)?;
+    }
+    Ok(words)
+}
+
+/// The line of a check of the certificate of the trivial ring, and how many bytes it wrote. The question is how many words there are, and a read of the
+/// problem, one of the certificate and a write that fail.
+pub fn check_on_devices(alloc: Global, question: &str) -> Result<Vec<u8>, Fault> {
+    let row = numbers(alloc, question)?;
+    let [words, first, second, write] = row.as_slice() else {
+        return Err(Fault::Form);
+    };
+    let bytes = b"{\"labels\":1,\"products\":[]}".to_vec(alloc)?;
+    let mut problem = MemSource::new(bytes, 8, vec![in alloc; *first]?);
+    let bytes =
+        b"braidcert 1\nunknowns 0\nequations 0\nbudget 5\nleaf 0 triangular\ndone 1\n".to_vec(
+            alloc,
+        )?;
+    let mut certificate = MemSource::new(bytes, 8, vec![in alloc; *second]?);
+    let mut sink = MemSink::new(alloc, 4096, 8, vec![in alloc; *write]?)?;
+    let words = words_of(alloc, *words)?;
+    let status = run_check::<Rationals, _, _, _>(
+        alloc,
+        &words,
+        &mut problem,
+        &mut certificate,
+        &mut sink,
+    );
+    let line = check_line(alloc, &status)?;
+    let written = sink.written().len();
+    let mut text = Vec::new(alloc);
+    push(format!(in alloc; "{line}, {written}")?.as_str(), &mut text)?;
+    Ok(text)
 }

@@ -17,23 +17,17 @@ struct Examples;
 
 impl Answers for Examples {
     fn answer(&self, alloc: Global, name: &str, question: &str) -> Result<Vec<u8>, Fault> {
-        let mut text = Vec::new(alloc);
-        push_answer(alloc, name, question, &mut text)?;
-        Ok(text)
-    }
-}
-
-fn push_answer(alloc: Global, name: &str, question: &str, into: &mut Vec<u8>) -> Result<(), Fault> {
-    match name {
-        "board" => boards::answer(alloc, question, into),
-        "finished boards" => boards::finished(alloc, question, into),
-        "checks" => checks::check(alloc, question, into),
-        "unended checks" => checks::check_unended(alloc, question, into),
-        "check faults" => checks::check_on_devices(alloc, question, into),
-        "migrations" => migrations::migration(alloc, question, into),
-        "migrated texts" => migrations::migrated(alloc, question, into),
-        "migration faults" => migrations::on_devices(alloc, question, into),
-        _ => Err(Fault::Form),
+        match name {
+            "board" => boards::answer(alloc, question),
+            "finished boards" => boards::finished(alloc, question),
+            "checks" => checks::check(alloc, question),
+            "unended checks" => checks::check_unended(alloc, question),
+            "check faults" => checks::check_on_devices(alloc, question),
+            "migrations" => migrations::migration(alloc, question),
+            "migrated texts" => migrations::migrated(alloc, question),
+            "migration faults" => migrations::on_devices(alloc, question),
+            _ => Err(Fault::Form),
+        }
     }
 }
 

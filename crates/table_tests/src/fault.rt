@@ -1,6 +1,5 @@
 //! Why a question has no answer.
 use std::alloc::{AllocError, AllocFailed};
-use std::io;
 
 /// Why a question has no answer.
 #[derive(Clone, Copy, Drop)]
@@ -19,13 +18,6 @@ impl From<AllocError> for Fault {
 
 impl<T: Drop> From<AllocFailed<T>> for Fault {
     fn from(_: AllocFailed<T>) -> Fault {
-        Fault::OutOfMemory
-    }
-}
-
-/// A text in memory refuses what is written to it only where no memory is left.
-impl From<io::Error> for Fault {
-    fn from(_: io::Error) -> Fault {
         Fault::OutOfMemory
     }
 }

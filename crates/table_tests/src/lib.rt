@@ -7,8 +7,6 @@ mod tables;
 mod texts;
 
 pub use fault::Fault;
-pub use report::{Answers, Report, exit_of, read_tables, work_tables};
-pub use tables::{Row, rows};
-pub use texts::{
-    GROUP_OF_TWO, both, ended, number, numbers, push, push_lines, push_poly, three, words,
-};
+pub use report::{exit_of, work_tables};
+pub use tables::{Answers, Report, worked};
+pub use texts::{both, number, numbers, push, push_poly};
