@@ -12,7 +12,7 @@ lowest_dividing-requires-clause-nonzero c =
 
 pub loop-i-preserved-in_default : goal.loop-i-preserved-in_default
 loop-i-preserved-in_default c =
-    let same : (equation_at c.equations-equations.result.now c.loop-i.i).poly ≡ poly c.args.case.now c.loop-i.i = ap (λ (es : List Equation). (equation_at es c.loop-i.i).poly) c.equations-equations.ensures in
+    let same : (equation_at c.equations-equations.result c.loop-i.i).poly ≡ poly c.args.case.now c.loop-i.i = ap (λ (es : List Equation). (equation_at es c.loop-i.i).poly) c.equations-equations.ensures in
     none_more _ _ c.loop-i.invariant (not_divided c.args.case.now c.loop-i.i _ same c.in_default.ensures)
 
 pub loop-i-preserved : goal.loop-i-preserved
