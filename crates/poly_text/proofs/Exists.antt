@@ -1,5 +1,5 @@
 -- Each text has an answer other than want of memory.
-use Rattle.std.specs.Prelude.{◌≡◌, ◌≢◌, ℕ, zero, suc, ◌^◌, ◌<◌, ◌≤◌, ◌⊎◌, Bool, true, false, ◌==◌, Option, None, Some, pos, negsuc, unsigned_abs, List, [], ◌∷◌, ◌++◌, length, drop, codes, refl}
+use Rattle.std.specs.Prelude.{◌≡◌, ◌≢◌, ℕ, zero, suc, ◌-◌, ◌^◌, ◌<◌, ◌≤◌, ◌⊎◌, Bool, true, false, ◌==◌, Option, None, Some, Result, Ok, Err, pos, negsuc, unsigned_abs, List, [], ◌∷◌, ◌++◌, length, drop, codes, refl}
 use Rattle.std.proofs.Common.{sym, ◌∙◌, ap, arith, inl, inr, append_assoc}
 use Rattle.std.specs.List.{AllByRecursion}
 use Rattle.sparse_poly.specs.declared.Term.{Term}
@@ -8,12 +8,13 @@ use Rattle.poly_text.specs.Form.{IsForm}
 use Rattle.poly_text.specs.Numbers.{number_from, after_digits, first_out, IsFactorInRange, AreInRange}
 use Rattle.poly_text.specs.Order.{front, first_disorder, place}
 use Rattle.poly_text.specs.Reading.{IsSpelling, IsTextFault}
+use Rattle.poly_text.specs.Scan.{scan}
 use Rattle.poly_text.specs.Fronts.{IsLive, GoesOn, begins_with, after_sign, IsFactorFront, IsFactorsFront, IsBodyFront, IsTermFront}
 use Rattle.poly_text.specs.State.{Start, Signed, Letter, FactorEnd}
 use Rattle.poly_text.specs.Disorder.{Disorder}
 use Rattle.poly_text.specs.declared.reader.PolyTextFault.{PolyTextFault}
 use Rattle.poly_text.specs.declared.reader.PolyTextFault.TheVariants.{Syntax, Number, Order, OutOfMemory}
-use Rattle.poly_text.proofs.Runs.{form_or_fault}
+use Rattle.poly_text.proofs.Scanned.{syntax_answer, number_answer, live_answer}
 use Rattle.poly_text.proofs.Fronts.{live_behind, coefficient_read, bare_factor, power_factor, star_read, factors_more, factor_shorter, factors_end, bare_body, written_body, zero_text, sign_read, sign_shorter, terms_more, terms_end}
 use Rattle.poly_text.proofs.Ordered.{ordered_poly}
 use Rattle.poly_text.proofs.Read.{terms_below}
@@ -155,13 +156,12 @@ ordered_or u text terms s form numbers e r = by (first_disorder 0 None terms) re
 
 -- a text is that of a polynomial, or has a fault
 pub some_answer : (u : ℕ) (text : List ℕ) → u < 2 ^ 32 → ((p : List Term) × IsSpelling u text p) ⊎ ((fault : PolyTextFault) × IsTextFault u text fault × (fault ≢ OutOfMemory))
-some_answer u text s = elim (form_or_fault [] text Start refl (λ e. cc)) [
-  | inl form ↦ by (first_out u Start text) refl form
-  | inr fault ↦ inr (Syntax fault.0, fault.1, λ k. cc)
-]
+some_answer u text s = by (scan u None Start text) refl
   where
-    by : (o : Option ℕ) → first_out u Start text ≡ o → IsForm text → ((p : List Term) × IsSpelling u text p) ⊎ ((fault : PolyTextFault) × IsTextFault u text fault × (fault ≢ OutOfMemory))
-    by (Some at) q form = inr (Number at, record { form = form; first = q }, λ k. cc)
-    by None q form =
-        let t = terms_of u text s (record { form = form; numbers = q }) in
-        ordered_or u text t.terms s form q t.spelled t.in_range
+    by : (r : Result (Option ℕ) ℕ) → scan u None Start text ≡ r → ((p : List Term) × IsSpelling u text p) ⊎ ((fault : PolyTextFault) × IsTextFault u text fault × (fault ≢ OutOfMemory))
+    by (Err left) q = inr (Syntax (length text - left), (syntax_answer u left None text q).1, λ k. cc)
+    by (Ok (Some left)) q = inr (Number (length text - left), (number_answer u left text q).1, λ k. cc)
+    by (Ok None) q =
+        let live = live_answer u text q in
+        let t = terms_of u text s live in
+        ordered_or u text t.terms s live.form live.numbers t.spelled t.in_range

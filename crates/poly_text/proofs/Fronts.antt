@@ -1,12 +1,9 @@
 -- What stands at the front of a text whose form and numbers are right.
-use Rattle.std.specs.Prelude.{◌≡◌, ◌≢◌, ℕ, suc, ◌+◌, ◌-◌, ◌*◌, ◌/◌, ◌%◌, ◌^◌, ◌<◌, ◌≤◌, Bool, true, false, ◌&&◌, ◌||◌, not, ◌==◌, nat_le, if◌then◌else◌, Option, None, Some, option_map, List, [], ◌∷◌, ◌++◌, length, drop, map, decimal, codes, refl}
+use Rattle.std.specs.Prelude.{◌≡◌, ◌≢◌, ℕ, suc, ◌+◌, ◌-◌, ◌*◌, ◌/◌, ◌%◌, ◌^◌, ◌<◌, ◌≤◌, Bool, true, false, ◌&&◌, ◌||◌, not, ◌==◌, nat_le, if◌then◌else◌, Option, None, Some, option_map, List, [], ◌∷◌, ◌++◌, length, drop, decimal, codes, refl}
 use Rattle.std.proofs.Common.{sym, ◌∙◌, ap, subst, arith, append_assoc, append-nil}
 use Rattle.std.proofs.lemmas.Bool.Decides.{nat_tests}
 use Rattle.std.proofs.lemmas.Fmt.{decimal_digit, decimal_step_wide}
 use Rattle.std.specs.List.{AllByRecursion}
-use Rattle.std.proofs.lemmas.List.{map-append}
-use Rattle.poly_text.specs.declared.raw.RawTerm.{RawTerm}
-use Rattle.poly_text.specs.Raw.{raw}
 use Rattle.sparse_poly.specs.declared.Term.{Term}
 use Rattle.sparse_poly.specs.Contributions.{max_coeff}
 use Rattle.poly_text.specs.Text.{factor_text, more_factors, body_text, term_text, more_terms, poly_text}
@@ -401,6 +398,12 @@ factors_more u start text rest further powers new p e r l s b f n =
       shorter = omega (arith, a);
     }
 
+-- without two bytes
+pub drop_two : (xs : List ℕ) → drop 1 (drop 1 xs) ≡ drop 2 xs
+drop_two [] = refl
+drop_two (c ∷ []) = refl
+drop_two (c ∷ d ∷ cs) = refl
+
 pub factor_shorter : (u : ℕ) (rest further : List ℕ) (p : ℕ × ℕ) → IsLive u FactorEnd rest → begins_with rest 42 ≡ true → IsFactorFront u (drop 2 rest) p further → length further < length rest
 factor_shorter u rest further p l b f = let a = ap length (star_read u rest l b).spelled in let z = f.shorter in omega (arith, a)
 
@@ -647,10 +650,3 @@ pub terms_end : (u : ℕ) (text rest : List ℕ) (ts : List Term) → front ts +
 terms_end u text (c ∷ cs) ts e g n = let k = is_equal (suc (length cs)) 0 n in absurd (omega arith)
 terms_end u text [] [] e g n = let k : false ≡ true = g.0.form in absurd (cc)
 terms_end u text [] (t ∷ ts) e g n = sym e ∙ append-nil (front (t ∷ ts))
-
-pub not_empty : (n : ℕ) → 0 < n → (n == 0) ≡ false
-not_empty n h = grind (arith, nat_tests)
-
--- one term more
-pub one_more : (old new : List RawTerm) (t : RawTerm) → new ≡ old ++ t ∷ [] → map raw new ≡ map raw old ++ raw t ∷ []
-one_more old new t e = ap (map raw) e ∙ map-append raw old (t ∷ [])

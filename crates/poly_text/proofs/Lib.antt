@@ -8,7 +8,8 @@ pub mod Fronts
 pub mod Written
 pub mod Ordered
 pub mod Read
+pub mod Places
+pub mod Scans
 pub mod Answered
+pub mod Scanned
 pub mod Exists
-pub mod Broken
-pub mod Values

@@ -63,3 +63,7 @@ pub no_fault : (ts : List Term) (fault : PolyFault) → IsPoly ts → IsFault ts
 no_fault ts (Degree v) h f d n = d
 no_fault ts (Heavy m) h f d n = not_heavy ts m h f.1
 no_fault ts OutOfMemory h f d n = n refl
+
+-- the terms that were taken from the whole list
+pub all_taken : (ts : List RawTerm) (n : ℕ) (taken : List Term) → taken ++ map raw (drop n ts) ≡ map raw ts → length ts ≤ n → taken ≡ map raw ts
+all_taken ts n taken e h = sym (ap (λ l. taken ++ map raw l) (drop_all n ts h) ∙ append-nil taken) ∙ e

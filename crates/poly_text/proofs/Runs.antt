@@ -1,11 +1,10 @@
 -- Going over a text by the grammar.
-use Rattle.std.specs.Prelude.{◌≡◌, ◌≢◌, ℕ, ◌+◌, ◌<◌, ◌⊎◌, Bool, true, false, List, [], ◌∷◌, ◌++◌, length, take, drop, get_or, refl, codes}
-use Rattle.std.proofs.Common.{sym, ◌∙◌, ap, subst, inl, inr, arith, add-one, append_assoc}
+use Rattle.std.specs.Prelude.{◌≡◌, ◌≢◌, ℕ, ◌+◌, ◌<◌, true, false, List, [], ◌∷◌, ◌++◌, length, take, drop, get_or, refl, codes}
+use Rattle.std.proofs.Common.{sym, ◌∙◌, ap, inl, inr, arith, add-one}
 use Rattle.std.specs.List.{AllByRecursion}
-use Rattle.std.proofs.lemmas.List.{take-append-drop, length-append}
-use Rattle.std.proofs.Math.Seq.{take-suc, take-length, take-append_seam, get_or-append_seam}
+use Rattle.std.proofs.lemmas.List.{take-append-drop}
+use Rattle.std.proofs.Math.Seq.{take-suc, take-length}
 use Rattle.poly_text.specs.Form.{run, next, ends, IsForm, IsPlainByte, IsSyntaxFault}
-use Rattle.poly_text.specs.Standing.{is_wrong}
 use Rattle.poly_text.specs.State.{State, Start, Signed, Zero, One, Coefficient, Times, Letter, VariableZero, Variable, Caret, FactorEnd, Exponent, Wrong}
 
 pub run-append : (s : State) (xs ys : List ℕ) → run s (xs ++ ys) ≡ run (run s xs) ys
@@ -79,36 +78,6 @@ fault_end text s e live n = record {
   begins = rw (take-length text) (begins_as text s e live);
   stops = inl refl;
 }
-
-wrong_of : (s : State) → is_wrong s ≡ true → s ≡ Wrong
-wrong_of Wrong h = refl
-wrong_of s h = absurd (cc)
-
-live_of : (s : State) → is_wrong s ≡ false → s ≢ Wrong
-live_of s h e = let k : false ≡ true = sym h ∙ ap is_wrong e in absurd (cc)
-
--- a place where the text leaves the form
-pub left_at : (text : List ℕ) (at : ℕ) (s : State) → at < length text → run Start (take at text) ≡ s → is_wrong s ≡ false → is_wrong (next s (get_or text at 0)) ≡ true → IsSyntaxFault text at
-left_at text at s h e live w = fault_at text at s h e (live_of s live) (wrong_of (next s (get_or text at 0)) w)
-
--- its end, where it only ended early
-pub left_early : (text : List ℕ) (s : State) → run Start text ≡ s → is_wrong s ≡ false → ends s ≡ false → IsSyntaxFault text (length text)
-left_early text s e live n = fault_end text s e (live_of s live) n
-
--- a text has the form or a fault of form
-pub form_or_fault : (front rest : List ℕ) (s : State) → run Start front ≡ s → s ≢ Wrong → IsForm (front ++ rest) ⊎ ((at : ℕ) × IsSyntaxFault (front ++ rest) at)
-form_or_fault front [] s e live = by (ends s) refl
-  where
-    by : (b : Bool) → ends s ≡ b → IsForm (front ++ []) ⊎ ((at : ℕ) × IsSyntaxFault (front ++ []) at)
-    by true q = inl (ap ends (run-append Start front [] ∙ e) ∙ q)
-    by false q = inr (length (front ++ []), fault_end (front ++ []) s (run-append Start front [] ∙ e) live q)
-form_or_fault front (c ∷ cs) s e live = by (is_wrong (next s c)) refl (λ l. subst (λ t. IsForm t ⊎ ((at : ℕ) × IsSyntaxFault t at)) (append_assoc front (c ∷ []) cs) (form_or_fault (front ++ c ∷ []) cs (next s c) (run-append Start front (c ∷ []) ∙ ap (λ r. next r c) e) l))
-  where
-    by : (b : Bool) → is_wrong (next s c) ≡ b → (next s c ≢ Wrong → IsForm (front ++ c ∷ cs) ⊎ ((at : ℕ) × IsSyntaxFault (front ++ c ∷ cs) at)) → IsForm (front ++ c ∷ cs) ⊎ ((at : ℕ) × IsSyntaxFault (front ++ c ∷ cs) at)
-    by true q further =
-        let w = length-append front (c ∷ cs) in
-        inr (length front, fault_at (front ++ c ∷ cs) (length front) s (omega (arith, w)) (ap (run Start) (take-append_seam front (c ∷ cs)) ∙ e) live (ap (next s) (get_or-append_seam front c cs 0) ∙ wrong_of (next s c) q))
-    by false q further = further (live_of (next s c) q)
 
 -- no text of the form goes on with a line feed
 line_feed : (s : State) → next s 10 ≡ Wrong

@@ -1,11 +1,12 @@
 -- What stands at the front of a text whose form and numbers are right.
-use Rattle.std.specs.Prelude.{◌≡◌, ℕ, ◌<◌, ◌≤◌, Bool, true, false, ◌==◌, ◌||◌, if◌then◌else◌, Option, None, List, [], ◌∷◌, ◌++◌, length, codes}
+use Rattle.std.specs.Prelude.{◌≡◌, ◌≢◌, ℕ, ◌-◌, ◌<◌, ◌≤◌, ◌⊎◌, Bool, true, false, ◌==◌, ◌||◌, if◌then◌else◌, Option, None, List, [], ◌∷◌, ◌++◌, length, drop, codes}
 use Rattle.std.specs.List.{AllByRecursion}
 use Rattle.sparse_poly.specs.Contributions.{max_coeff}
 use Rattle.sparse_poly.specs.declared.Term.{Term}
 use Rattle.poly_text.specs.Text.{factor_text, more_factors, body_text, term_text}
 use Rattle.poly_text.specs.Form.{is_digit, run, ends, after_term}
-use Rattle.poly_text.specs.Numbers.{first_out, IsFactorInRange, IsTermInRange}
+use Rattle.poly_text.specs.Numbers.{number_from, after_digits, first_out, IsFactorInRange, IsTermInRange}
+use Rattle.poly_text.specs.Scan.{scan, scan_end}
 use Rattle.poly_text.specs.State.{State, Start, Signed, FactorEnd}
 
 -- the text goes on from this state by the form, and its numbers are in range
@@ -23,6 +24,11 @@ abbrev pub begins_with_digit : List ℕ → Bool
 begins_with_digit [] = false
 begins_with_digit (c ∷ cs) = is_digit c
 
+-- nothing, or a sign
+abbrev pub ends_term : List ℕ → Bool
+ends_term [] = true
+ends_term (c ∷ cs) = (c == 43) || (c == 45)
+
 -- the text without the sign at its front
 abbrev pub after_sign : List ℕ → List ℕ
 after_sign [] = []
@@ -37,6 +43,33 @@ IsAfterTerm unknowns (c ∷ cs) = (after_term c ≡ Signed) × IsLive unknowns S
 abbrev pub GoesOn : ℕ → List Term → List ℕ → Type 0
 GoesOn u [] rest = IsLive u Start rest × (begins_with rest 48 ≡ false)
 GoesOn u (t ∷ ts) rest = IsAfterTerm u rest
+
+-- the text begins with a number without leading zeros, and n is it, or greater than any in range where that is out of range
+pub record IsNumberFront (text : List ℕ) (n : ℕ) (rest : List ℕ) : Type 0 where
+  pub digit : begins_with_digit text ≡ true
+  pub whole : begins_with text 48 ≡ true → begins_with_digit (drop 1 text) ≡ false
+  pub exact : n ≤ max_coeff → number_from 0 text ≡ n
+  pub great : max_coeff < n → max_coeff < number_from 0 text
+  pub behind : rest ≡ after_digits text
+
+-- the text begins with no digit, or with a 0 and a further digit, at which it leaves the form
+abbrev pub IsNoNumber : List ℕ → ℕ → Type 0
+IsNoNumber text left = ((begins_with_digit text ≡ false) × (left ≡ length text)) ⊎ ((begins_with text 48 ≡ true) × (begins_with_digit (drop 1 text) ≡ true) × (left ≡ length text - 1))
+
+-- behind state s a number is read, and behind it state z goes on; the value is that of the number where the text is right
+pub record IsNumberRead (unknowns : ℕ) (s z : State) (old new : Option ℕ) (text : List ℕ) (n : ℕ) (rest : List ℕ) : Type 0 where
+  pub same : scan unknowns old s text ≡ scan unknowns new z rest
+  pub value : IsLive unknowns s text → n ≡ number_from 0 text
+  pub behind : rest ≡ after_digits text
+
+-- a coefficient is read, behind which there may be factors where it is not 1
+pub record IsCoefficientRead (unknowns : ℕ) (old new : Option ℕ) (text : List ℕ) (n : ℕ) (rest : List ℕ) : Type 0 where
+  pub one : n ≡ 1 → scan unknowns old Signed text ≡ scan_end unknowns new rest
+  pub other : n ≢ 1 → scan unknowns old Signed text ≡ scan unknowns new FactorEnd rest
+  pub small : n ≤ max_coeff
+  pub value : IsLive unknowns Signed text → n ≡ number_from 0 text
+  pub behind : rest ≡ after_digits text
+  pub shorter : length rest < length text
 
 -- behind an `x` the text is that of a factor and a rest
 pub record IsFactorFront (unknowns : ℕ) (text : List ℕ) (p : ℕ × ℕ) (rest : List ℕ) : Type 0 where

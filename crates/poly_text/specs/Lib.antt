@@ -3,9 +3,9 @@ pub mod Disorder
 pub mod Text
 pub mod Form
 pub mod Numbers
-pub mod Standing
+pub mod Scan
 pub mod Fronts
 pub mod Raw
 pub mod Order
-pub mod Broken
+pub mod Places
 pub mod Reading

@@ -9,14 +9,11 @@
 
 mod factors;
 mod form;
-mod front;
 mod laws;
 mod numbers;
 mod order;
-mod places;
 mod raw;
 mod reader;
-mod standing;
 mod writer;
 
 pub use laws::{answer_law, spelling_law, text_law};

@@ -1,14 +1,14 @@
 //! The numbers of a polynomial's text.
 
-ghost use Rattle.std.specs.Prelude.{◌≡◌, ◌<◌, ◌≤◌, ◌+◌, ◌-◌, ◌*◌, ◌⊎◌, ℕ, true, false};
+ghost use Rattle.std.specs.Prelude.{◌≡◌, ◌<◌, ◌≤◌, ◌+◌, ◌-◌, ◌*◌, ◌⊎◌, ℕ, true, false, Err, MatchResult};
 ghost use Rattle.sparse_poly.specs.Contributions.{max_coeff};
 ghost use Rattle.poly_text.specs.Form.{is_digit};
-ghost use Rattle.poly_text.specs.State.{Start};
-ghost use Rattle.poly_text.specs.Standing.{stands};
-ghost use Rattle.poly_text.specs.Numbers.{number_from, after_digits, in_range, is_out, first_out};
+ghost use Rattle.poly_text.specs.State.{Letter, VariableZero, Caret, FactorEnd, Signed};
+ghost use Rattle.poly_text.specs.Numbers.{number_from, after_digits};
+ghost use Rattle.poly_text.specs.Scan.{scan};
+ghost use Rattle.poly_text.specs.Fronts.{begins_with, IsNumberFront, IsNoNumber, IsNumberRead, IsCoefficientRead};
 
-use crate::front::{begins_with_digit, behind};
-use crate::standing::Standing;
+use crate::form::{SyntaxFault, begins_with, begins_with_digit, behind, note};
 
 /// The greatest absolute value of a coefficient.
 const MAX_COEFF: u128 = i128::MAX as u128;
@@ -29,7 +29,7 @@ fn with_digit(number: u128, digit: u8) -> u128
 
 /// The digits at the front of a text as a number, or as a greater one than any in range where that is
 /// out of range, and what follows them.
-pub(crate) fn split_digits(text: &[u8]) -> (u128, &[u8])
+fn split_digits(text: &[u8]) -> (u128, &[u8])
     ensures exact { result.0 ≤ max_coeff → number_from 0 text.now ≡ result.0 }
     ensures great { max_coeff < result.0 → max_coeff < number_from 0 text.now }
     ensures rest { result.1.now ≡ after_digits text.now }
@@ -43,40 +43,71 @@ pub(crate) fn split_digits(text: &[u8]) -> (u128, &[u8])
     (number, rest)
 }
 
-/// Whether a number that stands here is in range.
-fn is_in_range(unknowns: u32, state: Standing, number: u128) -> bool
-    ensures { result ≡ in_range unknowns (stands state) number }
+/// The number at the front of a text, which has no leading zeros, and what follows it.
+fn split_number(text: &[u8]) -> Result<(u128, &[u8]), SyntaxFault>
+    ensures { MatchResult result (λ r. IsNumberFront text.now r.0 r.1.now) (λ e. IsNoNumber text.now e.left) }
 {
-    match state {
-        Standing::Letter => number < unknowns as u128,
-        Standing::Caret => 2 <= number && number <= 65535,
-        _ => number <= MAX_COEFF,
+    if !begins_with_digit(text) {
+        return Err(SyntaxFault { left: text.len() });
+    }
+    if begins_with(text, b'0') && begins_with_digit(behind(text, 1)) {
+        return Err(SyntaxFault {
+            left: text.len() - 1,
+        });
+    }
+    Ok(split_digits(text))
+}
+
+/// The variable at the front of a text, or 0 where it is out of range, and what follows it.
+pub(crate) fn split_variable<'a>(
+    unknowns: u32,
+    text: &'a [u8],
+    fault: &mut Option<usize>,
+) -> Result<(u32, &'a [u8]), SyntaxFault>
+    ensures { MatchResult result (λ r. IsNumberRead unknowns Letter VariableZero fault.old fault.new text.now r.0 r.1.now) (λ e. scan unknowns fault.old Letter text.now ≡ Err e.left) }
+{
+    let (number, rest) = split_number(text)?;
+    if number < unknowns as u128 {
+        Ok((number as u32, rest))
+    } else {
+        note(fault, text.len());
+        Ok((0, rest))
     }
 }
 
-/// Whether a number that is out of range starts here.
-fn is_out(unknowns: u32, state: Standing, text: &[u8]) -> bool
-    ensures { result ≡ is_out unknowns (stands state) text.now }
+/// The exponent at the front of a text, or 0 where it is out of range, and what follows it.
+pub(crate) fn split_exponent<'a>(
+    text: &'a [u8],
+    fault: &mut Option<usize>,
+) -> Result<(u16, &'a [u8]), SyntaxFault>
+    ensures { (unknowns : ℕ) → MatchResult result (λ r. IsNumberRead unknowns Caret FactorEnd fault.old fault.new text.now r.0 r.1.now) (λ e. scan unknowns fault.old Caret text.now ≡ Err e.left) }
 {
-    if !state.starts_number() || !begins_with_digit(text) {
-        return false;
+    let (number, rest) = split_number(text)?;
+    if 2 <= number && number <= 65535 {
+        Ok((number as u16, rest))
+    } else {
+        note(fault, text.len());
+        Ok((0, rest))
     }
-    let (number, _) = split_digits(text);
-    !is_in_range(unknowns, state, number)
 }
 
-/// The start of the first number out of range.
-pub(crate) fn number_fault(unknowns: u32, text: &[u8]) -> Option<usize>
-    ensures { result ≡ first_out unknowns Start text.now }
+/// The absolute value of the coefficient at the front of a text, or the greatest where it is out of
+/// range, and what follows it.
+pub(crate) fn split_coefficient<'a>(
+    text: &'a [u8],
+    fault: &mut Option<usize>,
+) -> Result<(u128, &'a [u8]), SyntaxFault>
+    requires { begins_with text.now 120 ≡ false }
+    ensures { (unknowns : ℕ) → MatchResult result (λ r. IsCoefficientRead unknowns fault.old fault.new text.now r.0 r.1.now) (λ e. scan unknowns fault.old Signed text.now ≡ Err e.left) }
 {
-    let mut state = Standing::Start;
-    let mut at = 0;
-    'bytes: while at < text.len() {
-        if is_out(unknowns, state, behind(text, at)) {
-            return Some(at);
-        }
-        state = state.next(text[at]);
-        at += 1;
+    if !begins_with_digit(text) || begins_with(text, b'0') {
+        return Err(SyntaxFault { left: text.len() });
     }
-    None
+    let (number, rest) = split_digits(text);
+    if number <= MAX_COEFF {
+        Ok((number, rest))
+    } else {
+        note(fault, text.len());
+        Ok((MAX_COEFF, rest))
+    }
 }

@@ -3,9 +3,9 @@
 ghost use Rattle.std.specs.Prelude.{◌≡◌, IfOk, None, Some, option_map, map};
 ghost use Rattle.std.specs.Ordering.{is_lt};
 ghost use Rattle.monomial.specs.Monomials.{monomial_cmp};
-ghost use Rattle.poly_text.specs.Order.{product, is_below, first_factor, first_disorder};
+ghost use Rattle.poly_text.specs.Order.{product, is_below, first_factor};
 ghost use Rattle.poly_text.specs.Raw.{raw};
-ghost use Rattle.poly_text.specs.Broken.{breaks, monomial_disorder};
+ghost use Rattle.poly_text.specs.Places.{last_monomial, is_falling};
 
 use crate::factors::product;
 use crate::raw::RawTerm;
@@ -76,47 +76,22 @@ pub(crate) fn is_term_below(
     }
 }
 
-/// What breaks the order: a term, or a factor of a term, by their numbers from 0.
-#[derive(Clone, Copy, Drop)]
-pub(crate) enum Broken {
-    /// The term's monomial is not below the one before.
-    Term { term: usize },
-    /// The factor's variable is not below the one before.
-    Factor { term: usize, factor: usize },
-}
-
-/// What breaks the order in a term: its monomial, or else one of its factors.
-fn broken_in(
-    alloc: Global,
-    term: usize,
-    before: Option<&[(u32, u16)]>,
-    powers: &[(u32, u16)],
-) -> Result<Option<Broken>, AllocError>
-    ensures { IfOk result (λ o. option_map breaks o ≡ monomial_disorder term (option_map (λ s. s.now) before.entry) powers.now) }
+/// The factors of the last term, if there is one.
+pub(crate) fn last_powers(terms: &[RawTerm]) -> Option<&[(u32, u16)]>
+    ensures { option_map (λ s. s.now) result ≡ last_monomial None (map raw terms.now) }
 {
-    if !is_term_below(alloc, before, powers)? {
-        return Ok(Some(Broken::Term { term }));
-    }
-    match first_factor(powers) {
-        None => Ok(None),
-        Some(factor) => Ok(Some(Broken::Factor { term, factor })),
+    match terms {
+        [] => None,
+        [.., last] => Some(last.powers.as_slice()),
     }
 }
 
-/// What breaks the order first.
-pub(crate) fn first_disorder(alloc: Global, terms: &[RawTerm]) -> Result<Option<Broken>, AllocError>
-    ensures { IfOk result (λ o. option_map breaks o ≡ first_disorder 0 None (map raw terms.now)) }
+/// Whether a variable is below that of the last factor, where there is one.
+pub(crate) fn is_falling(powers: &[(u32, u16)], variable: u32) -> bool
+    ensures { result ≡ is_falling powers.now variable }
 {
-    let mut before = None;
-    let mut at = 0;
-    'terms: while at < terms.len() {
-        let powers = terms[at].powers.as_slice();
-        let broken = broken_in(alloc, at, before, powers)?;
-        if broken.is_some() {
-            return Ok(broken);
-        }
-        before = Some(powers);
-        at += 1;
+    match powers {
+        [] => true,
+        [.., last] => variable < last.0,
     }
-    Ok(None)
 }

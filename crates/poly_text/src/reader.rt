@@ -5,12 +5,10 @@ ghost use Rattle.sparse_poly.specs.Contributions.{IsPoly};
 ghost use Rattle.poly_text.specs.Raw.{raw};
 ghost use Rattle.poly_text.specs.Reading.{IsSpelling, IsTextFault};
 
-use crate::form::form_fault;
-use crate::numbers::number_fault;
-use crate::order::first_disorder;
-use crate::places::{place, terms_of};
+use crate::form::Stop;
 use crate::raw::{RawTerm, read_terms};
-use sparse_poly::{Poly, PolyFault};
+use monomial::Monomial;
+use sparse_poly::{Poly, PolyFault, Term};
 use std::alloc::{AllocError, AllocFailed, Global};
 use thiserror::Error;
 
@@ -51,7 +49,13 @@ fn poly_of(alloc: Global, terms: &[RawTerm]) -> Result<Poly, AllocError>
     requires { IsPoly (map raw terms.now) }
     ensures { IfOk result (λ p. p ≡ map raw terms.now) }
 {
-    let list = terms_of(alloc, terms)?;
+    let mut list = Vec::new(alloc);
+    for term in terms {
+        list.push(Term {
+            monomial: Monomial::from_powers(alloc, &term.powers)?,
+            coeff: term.coeff,
+        })?;
+    }
     match Poly::from_terms(alloc, list) {
         Ok(poly) => Ok(poly),
         Err(fault) => match fault {
@@ -66,17 +70,25 @@ fn poly_of(alloc: Global, terms: &[RawTerm]) -> Result<Poly, AllocError>
 pub fn read_poly(alloc: Global, text: &[u8], unknowns: u32) -> Result<Poly, PolyTextFault>
     ensures { MatchResult result (IsSpelling unknowns text.now) (IsTextFault unknowns text.now) }
 {
-    if let Some(at) = form_fault(text) {
-        return Err(PolyTextFault::Syntax { at: at as u64 });
+    let reading = match read_terms(alloc, unknowns, text) {
+        Ok(reading) => reading,
+        Err(Stop::Syntax { left }) => {
+            return Err(PolyTextFault::Syntax {
+                at: (text.len() - left) as u64,
+            });
+        }
+        Err(Stop::OutOfMemory) => return Err(PolyTextFault::OutOfMemory),
+    };
+    if let Some(left) = reading.number_fault {
+        return Err(PolyTextFault::Number {
+            at: (text.len() - left) as u64,
+        });
     }
-    if let Some(at) = number_fault(unknowns, text) {
-        return Err(PolyTextFault::Number { at: at as u64 });
+    if let Some(left) = reading.disorder {
+        return Err(PolyTextFault::Order {
+            at: (text.len() - left) as u64,
+        });
     }
-    let terms = read_terms(alloc, unknowns, text)?;
-    if let Some(broken) = first_disorder(alloc, &terms)? {
-        let at = place(alloc, &terms, broken)?;
-        return Err(PolyTextFault::Order { at });
-    }
-    let poly = poly_of(alloc, &terms)?;
+    let poly = poly_of(alloc, &reading.terms)?;
     Ok(poly)
 }

@@ -2,7 +2,6 @@
 
 ghost use Rattle.std.specs.Prelude.{◌≡◌, ◌<◌, ◌++◌, OnOk, OnErr, decimal, codes, [], ◌==◌, if◌then◌else◌, drop, length};
 ghost use Rattle.monomial.specs.Readings.{left_powers};
-ghost use Rattle.poly_text.specs.Order.{front};
 ghost use Rattle.poly_text.specs.Text.{factor_text, more_factors, body_text, sign_text, term_text, more_terms, poly_text};
 
 use itoa::{Buffer, Integer};
@@ -80,7 +79,7 @@ fn push_sign(plus: &[u8], coeff: i128, into: &mut Vec<u8>) -> Result<(), AllocEr
     }
 }
 
-pub(crate) fn push_term(plus: &[u8], term: &Term, into: &mut Vec<u8>) -> Result<(), AllocError>
+fn push_term(plus: &[u8], term: &Term, into: &mut Vec<u8>) -> Result<(), AllocError>
     ensures { OnOk result (into.new.items ≡ into.old.items ++ term_text plus.now term.now) }
 {
     push_sign(plus, term.coeff, into)?;
@@ -96,25 +95,15 @@ fn push_more_terms(terms: &[Term], into: &mut Vec<u8>) -> Result<(), AllocError>
     Ok(())
 }
 
-/// Appends the text of terms, nothing for none.
-pub(crate) fn push_front(terms: &[Term], into: &mut Vec<u8>) -> Result<(), AllocError>
-    ensures { OnOk result (into.new.items ≡ into.old.items ++ front terms.now) }
-{
-    match terms {
-        [] => Ok(()),
-        [first, rest @ ..] => {
-            push_term(b"", first, into)?;
-            push_more_terms(rest, into)
-        }
-    }
-}
-
 fn push_poly(poly: &Poly, into: &mut Vec<u8>) -> Result<(), AllocError>
     ensures { OnOk result (into.new.items ≡ into.old.items ++ poly_text poly.now) }
 {
     match poly.terms() {
         [] => push_text(b"0", into),
-        terms => push_front(terms, into),
+        [first, rest @ ..] => {
+            push_term(b"", first, into)?;
+            push_more_terms(rest, into)
+        }
     }
 }
 

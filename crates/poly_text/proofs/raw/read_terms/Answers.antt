@@ -1,12 +1,13 @@
-use Rattle.std.proofs.Common.{rules, ◌≡◌, true}
-use Rattle.poly_text.specs.Fronts.{begins_with}
-use Rattle.poly_text.proofs.Fronts.{zero_text}
+use Rattle.std.proofs.Common.{rules, ◌∙◌, None}
+use Rattle.poly_text.proofs.Scans.{zero_more}
 use Rattle.poly_text.proofs.raw.read_terms.Goals as goal
 
-pub returns-then-begins_with : goal.returns-then-begins_with
-returns-then-begins_with c =
-    let b : begins_with c.args.text.now 48 ≡ true = search rules in
-    rw c.new-terms.ensures.items (record { spelled = zero_text c.args.unknowns c.args.text.now c.requires b; in_range = tt })
+pub returns-else-text-eq1-clause-scan : goal.returns-else-text-eq1-clause-scan
+returns-else-text-eq1-clause-scan c = zero_more c.args.unknowns None c.args.text.now (search rules) c.if-text-eq1.false
 
 pub terms-preserved : goal.terms-preserved
-terms-preserved c = c.in_ok-rest.ensures.read c.args.text.now c.terms.invariant
+terms-preserved c = record {
+  same = c.terms.invariant.same ∙ c.in_ok-rest.ensures.scan;
+  at_sign = c.in_ok-rest.ensures.at_sign;
+  read = λ live. c.in_ok-rest.ensures.terms c.args.text.now (c.terms.invariant.read live);
+}

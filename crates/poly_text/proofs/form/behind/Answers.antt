@@ -1,6 +1,6 @@
 use Rattle.std.proofs.Common.{sym, ◌∙◌, ap, take, drop, length-drop}
 use Rattle.std.proofs.Math.Seq.{take-length}
-use Rattle.poly_text.proofs.front.behind.Goals as goal
+use Rattle.poly_text.proofs.form.behind.Goals as goal
 
 pub returns : goal.returns
 returns c =
