@@ -1,4 +1,5 @@
 pub mod Steps
+pub mod SmallKeys
 pub mod Total
 pub mod Exponents
 pub mod Lower

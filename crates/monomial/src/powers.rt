@@ -300,15 +300,22 @@ impl Powers {
     fn order_by_power(&self, other: &Powers) -> Ordering
         ensures { result ≡ monomial_cmp self.now other.now }
     {
-        let mut i = 0;
-        'powers: while i < self.len() && i < other.len() {
-            match self.power_at(i).cmp(&other.power_at(i)) {
+        let mut left = self.powers();
+        let mut right = other.powers();
+        'powers: while let Some(first) = left.next() {
+            let Some(second) = right.next() else {
+                return Ordering::Greater;
+            };
+            match first.cmp(&second) {
                 Ordering::Less => return Ordering::Less,
-                Ordering::Equal => i += 1,
+                Ordering::Equal => {}
                 Ordering::Greater => return Ordering::Greater,
             }
         }
-        self.len().cmp(&other.len())
+        match right.next() {
+            Some(_) => Ordering::Less,
+            None => Ordering::Equal,
+        }
     }
 }
 
