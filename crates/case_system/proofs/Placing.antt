@@ -112,6 +112,16 @@ past_all p es (suc i) l h =
     let rest : IsPast p es i = past_all p es i (omega (arith, l)) (λ j k. h j (omega (arith, k))) in
     subst (IsPast p es) (add-one i) (past_more p es i (equation_at es i) at (any_default es i _ _ at) (h i (omega arith)) rest)
 
+-- above the last equation
+pub goes_last : (p : List Term) (es : List Equation) → Ascend es → 0 < length es → poly_cmp (equation_at es (length es - 1)).poly p ≡ Less → GoesTo p es (length es)
+goes_last p es a n l = past_end p es (length es) refl (past_all p es (length es) (omega arith) (λ j k. each j k (cases_lt j (length es - 1))))
+  where
+    each : (j : ℕ) → j < length es → (j < length es - 1) ⊎ (length es - 1 ≤ j) → poly_cmp (equation_at es j).poly p ≡ Less
+    each j k (inl x) = poly_cmp-IsTotalOrder.trans (equation_at es j).poly (equation_at es (length es - 1)).poly p (below_at [] es j (length es - 1) a x (omega arith)) l
+    each j k (inr x) =
+        let same : length es - 1 ≡ j = omega (arith, x, k) in
+        subst (λ i. poly_cmp (equation_at es i).poly p ≡ Less) same l
+
 -- the order to a polynomial does not fall along the equations
 rises : (p q r : List Term) → poly_cmp p q ≡ Less → ordering_index (poly_cmp p r) ≤ ordering_index (poly_cmp q r)
 rises p q r l = each (poly_cmp q r) refl

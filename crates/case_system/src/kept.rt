@@ -1,5 +1,5 @@
 //! Lists of equations in order.
-ghost use Rattle.std.specs.Prelude.{◌≡◌, ◌≢◌, ◌<◌, List, [], IfOk, IfSome, MatchResult, length, remove, slice_set, vec_len, vec_capacity};
+ghost use Rattle.std.specs.Prelude.{◌≡◌, ◌≢◌, ◌<◌, List, [], IsTrue, IfOk, IfSome, MatchResult, length, remove, slice_set, vec_len, vec_capacity};
 ghost use Rattle.sparse_poly.specs.declared.Term.{Term};
 ghost use Rattle.case_rules.specs.Cases.{equation_at};
 ghost use Rattle.case_rules.specs.Kept.{older, added, item_of};
@@ -13,13 +13,26 @@ use case_rules::Equation;
 use derive_lines::{Item, is_same};
 use sparse_poly::Poly;
 use std::alloc::{AllocError, Global};
+use std::cmp::Ordering;
 
 // Where a polynomial stands among equations, or else where it goes.
 fn place_of(equations: &[Equation], poly: &Poly) -> Result<usize, usize>
     requires { Ascend equations.now }
     ensures { MatchResult result (StandsAt poly.now equations.now) (GoesTo poly.now equations.now) }
 {
+    if goes_last(equations, poly) {
+        return Err(equations.len());
+    }
     equations.binary_search_by(|equation| equation.poly.order(poly))
+}
+
+// Whether the last equation is below a polynomial. Equations that are made in order go to the end one after the other.
+fn goes_last(equations: &[Equation], poly: &Poly) -> bool
+    requires { Ascend equations.now }
+    ensures { IsTrue result → GoesTo poly.now equations.now (length equations.now) }
+{
+    let n = equations.len();
+    n > 0 && matches!(equations[n - 1].poly.order(poly), Ordering::Less)
 }
 
 // Of two items the older one.
