@@ -30,7 +30,7 @@ pub enum WorkEnd {
 }
 
 // After so many sweeps in a row in which a worker found no case in a deck, it works on the least pending one.
-const MAX_IDLE_SWEEPS: u32 = 64;
+const MAX_IDLE_SWEEPS: u32 = 1024;
 
 // What a worker found when it looked for a case to go on with.
 #[derive(Drop)]
@@ -40,7 +40,7 @@ enum Sweep {
     NonePending,
 }
 
-/// One worker. It takes cases from its own deck, and else steals one; where it finds none 64 times in a row, it takes the least pending one. It looks
+/// One worker. It takes cases from its own deck, and else steals one; where it finds none 1,024 times in a row, it takes the least pending one. It looks
 /// at the case at one turn, runs it, passes the gate, and settles it at another turn. The branches of a split go onto its own deck; one for which
 /// there is no room stays pending. It ends with `Finished` only where at a turn of its own no case was pending, and with `OutOfMemory` only where no
 /// memory was left.
@@ -86,10 +86,10 @@ fn next_case<R: Wait>(
     idle_sweeps: &mut u32,
 ) -> Sweep
     requires seat { IsBoardSeat turns.now seat.old }
-    requires idle { idle_sweeps.old < 64 }
+    requires idle { idle_sweeps.old < 1024 }
     ensures seat { IsBoardSeat turns.now seat.new }
     ensures seen { IsPrefix (seat_seen seat.old) (seat_seen seat.new) }
-    ensures idle { idle_sweeps.new < 64 }
+    ensures idle { idle_sweeps.new < 1024 }
     ensures done { result ≡ NonePending → IsComplete (seen_board turns.now seat.new).history }
 {
     if let Some(n) = next_number(owner, thieves) {

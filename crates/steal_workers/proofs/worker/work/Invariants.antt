@@ -7,4 +7,4 @@ use Rattle.steal_workers.proofs.worker.work.Given as goal
 
 -- the seat has seen more, and the runner has the root and the budget of the lock
 abbrev pub invariant-loop : goal.invariant-loop
-invariant-loop g l = (goal.iterator-loop g).can_next l.iterator' × (goal.iterator-loop g).is_finite l.iterator' × IsBoardSeat l.turns l.seat × IsPrefix (seat_seen l.fn.seat) (seat_seen l.seat) × (l.idle_sweeps < 64) × AreOfBoard (seen_board l.turns l.seat) l.runner.root.now
+invariant-loop g l = (goal.iterator-loop g).can_next l.iterator' × (goal.iterator-loop g).is_finite l.iterator' × IsBoardSeat l.turns l.seat × IsPrefix (seat_seen l.fn.seat) (seat_seen l.seat) × (l.idle_sweeps < 1024) × AreOfBoard (seen_board l.turns l.seat) l.runner.root.now
