@@ -1,14 +1,10 @@
 //! The inverses of the F- and R-symbols.
 
-ghost use Rattle.std.specs.Prelude.{◌≡◌, ◌≤◌, ◌↔◌, IsTrue, Some, None, if◌then◌else◌, IfOk, All, Contains, List, [], ◌∷◌, length, vec_len};
-ghost use Rattle.field_laws.specs.Field.{AllElements};
-ghost use Rattle.sparse_poly.specs.Polynomials.{eval};
-ghost use Rattle.symbol_equations.specs.Values.{symbol_value};
+ghost use Rattle.std.specs.Prelude.{◌≡◌, ◌≤◌, ◌↔◌, IsTrue, Some, None, if◌then◌else◌, IfOk, Contains, List, [], ◌∷◌, length, vec_len};
 ghost use Rattle.symbol_equations.specs.Differences.{AreDifferences};
 ghost use Rattle.gauge_fix.specs.declared.inverse.InverseLabels.{InverseLabels};
-ghost use Rattle.gauge_fix.specs.Inverses.{is_on, opposite, matrix, are_on, is_channel, entry_product, entry_side, identity_side, braiding_side, one_side, IsEntryEquation, IsBraidingEquation, Inverses, AreInverseDifferences};
+ghost use Rattle.gauge_fix.specs.Inverses.{is_on, opposite, matrix, are_on, is_channel, entry_product, entry_side, identity_side, braiding_side, one_side, IsEntryEquation, IsBraidingEquation, AreInverseDifferences};
 
-use field_laws::CharZeroField;
 use fusion_ring::Ring;
 use label_tuples::{all_fours, extended};
 use sparse_poly::Poly;
@@ -49,11 +45,6 @@ pub fn inverses(alloc: Global, ring: &Ring, symbols: &Symbols) -> Result<Vec<Pol
     all.append(&mut others)?;
     Ok(all)
 }
-
-/// In every field the differences vanish exactly where the inverses hold.
-pub fn inverse_law<F: CharZeroField>()
-    ensures { (r x ps : _) → AllElements F.field x → AreInverseDifferences r ps → (All (λ p. eval F.field x p ≡ F.field.zero) ps ↔ Inverses F.field r (symbol_value F.field r x)) }
-{}
 
 // The entries of F times G, for two rows, or of G times F, for two columns.
 fn entry_inverses(
