@@ -6,4 +6,4 @@ mod inverse;
 pub mod laws;
 
 pub use gauge::gauges;
-pub use inverse::{InverseLabels, Side, inverses};
+pub use inverse::{InverseLabels, inverses};
