@@ -14,7 +14,7 @@ use crate::verdict::verdict_on;
 use braid_io::{Sink, Source, write_all_of};
 use case_history::accepted_law;
 use field_laws::CharZeroField;
-use root_system::root_law;
+use root_system::laws::root_law;
 use std::alloc::Global;
 
 /// Reads a problem and a certificate to their ends, checks the certificate against the root of the problem, and writes the line of the verdict to the

@@ -6,9 +6,10 @@ use Rattle.fusion_ring.specs.Fusion.{Fusion, channel}
 use Rattle.fusion_ring.proofs.Channels.{and_intro, and_left, and_right, first_below, second_below, channel_below}
 use Rattle.symbol_equations.proofs.Stages.{With}
 use Rattle.gauge_fix.specs.declared.inverse.InverseLabels.{InverseLabels}
-use Rattle.gauge_fix.specs.declared.inverse.Side.{Side}
-use Rattle.gauge_fix.specs.declared.inverse.Side.TheVariants.{Rows, Columns}
-use Rattle.gauge_fix.specs.Inverses.{is_on, matrix, are_on, is_channel}
+use Rattle.symbol_index.specs.declared.sides.Side.{Side}
+use Rattle.symbol_index.specs.declared.sides.Side.TheVariants.{Rows, Columns}
+use Rattle.symbol_index.specs.Sides.{is_on}
+use Rattle.gauge_fix.specs.Inverses.{matrix, are_on, is_channel}
 
 abbrev pub inverse_tuples : Longer (ℕ × ℕ × ℕ × ℕ × ℕ) InverseLabels
 inverse_tuples = record {

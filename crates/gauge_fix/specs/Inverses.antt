@@ -7,20 +7,12 @@ use Rattle.sparse_poly.specs.declared.Term.{Term}
 use Rattle.fusion_ring.specs.Fusion.{Fusion, channel}
 use Rattle.symbol_index.specs.declared.Symbol.{Symbol}
 use Rattle.symbol_index.specs.declared.Symbol.TheVariants.{Fsym, Ginv, Rsym, Sinv}
+use Rattle.symbol_index.specs.declared.sides.Side.{Side}
+use Rattle.symbol_index.specs.declared.sides.Side.TheVariants.{Rows, Columns}
+use Rattle.symbol_index.specs.Sides.{is_on, opposite}
 use Rattle.symbol_equations.specs.Values.{side_value}
 use Rattle.symbol_equations.specs.Differences.{EquationAt, AreDifferences}
 use Rattle.gauge_fix.specs.declared.inverse.InverseLabels.{InverseLabels}
-use Rattle.gauge_fix.specs.declared.inverse.Side.{Side}
-use Rattle.gauge_fix.specs.declared.inverse.Side.TheVariants.{Rows, Columns}
-
--- x is a row, N(a,b,x) = N(x,c,d) = 1, or a column, N(b,c,x) = N(a,x,d) = 1, of the matrix of a, b, c and d
-abbrev pub is_on : Side → Fusion → ℕ × ℕ × ℕ × ℕ → ℕ → Bool
-is_on Rows r t x = channel r t.0 t.1 x && channel r x t.2 t.3
-is_on Columns r t x = channel r t.1 t.2 x && channel r t.0 x t.3
-
-abbrev pub opposite : Side → Side
-opposite Rows = Columns
-opposite Columns = Rows
 
 abbrev pub matrix : InverseLabels → ℕ × ℕ × ℕ × ℕ
 matrix at = (at.a, at.b, at.c, at.d)

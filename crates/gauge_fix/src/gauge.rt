@@ -1,13 +1,9 @@
 //! The gauge: named symbols with chosen values.
 
-ghost use Rattle.std.specs.Prelude.{◌≡◌, ◌↔◌, IfOk, All};
-ghost use Rattle.field_laws.specs.Field.{AllElements};
-ghost use Rattle.sparse_poly.specs.Polynomials.{eval};
+ghost use Rattle.std.specs.Prelude.{◌≡◌, IfOk, All};
 ghost use Rattle.symbol_index.specs.Symbols.{standing};
-ghost use Rattle.symbol_equations.specs.Values.{symbol_value};
-ghost use Rattle.gauge_fix.specs.Gauge.{IsFixable, Gauge, IsGaugeDifference, AreGaugeDifferences};
+ghost use Rattle.gauge_fix.specs.Gauge.{IsFixable, IsGaugeDifference, AreGaugeDifferences};
 
-use field_laws::CharZeroField;
 use monomial::Monomial;
 use sparse_poly::{Poly, PolyFault, Term};
 use std::alloc::{AllocError, Global};
@@ -31,12 +27,6 @@ pub fn gauges(
     }
     Ok(differences)
 }
-
-/// In every field the differences vanish exactly where each named symbol equals the image of its
-/// whole number.
-pub fn gauge_law<F: CharZeroField>()
-    ensures { (r x gauge ps : _) → AllElements F.field x → AreGaugeDifferences r gauge ps → (All (λ p. eval F.field x p ≡ F.field.zero) ps ↔ Gauge F.field (symbol_value F.field r x) gauge) }
-{}
 
 // The symbol of an entry minus its value.
 fn gauge_difference(alloc: Global, symbols: &Symbols, entry: GaugeEntry) -> Result<Poly, AllocError>

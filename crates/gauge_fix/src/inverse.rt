@@ -1,27 +1,17 @@
 //! The inverses of the F- and R-symbols.
 
-ghost use Rattle.std.specs.Prelude.{◌≡◌, ◌≤◌, ◌↔◌, IsTrue, Some, None, if◌then◌else◌, IfOk, All, Contains, List, [], ◌∷◌, length, vec_len};
-ghost use Rattle.field_laws.specs.Field.{AllElements};
-ghost use Rattle.sparse_poly.specs.Polynomials.{eval};
-ghost use Rattle.symbol_equations.specs.Values.{symbol_value};
+ghost use Rattle.std.specs.Prelude.{◌≡◌, ◌≤◌, ◌↔◌, IsTrue, Some, None, if◌then◌else◌, IfOk, Contains, List, [], ◌∷◌, length, vec_len};
 ghost use Rattle.symbol_equations.specs.Differences.{AreDifferences};
 ghost use Rattle.gauge_fix.specs.declared.inverse.InverseLabels.{InverseLabels};
-ghost use Rattle.gauge_fix.specs.Inverses.{is_on, opposite, matrix, are_on, is_channel, entry_product, entry_side, identity_side, braiding_side, one_side, IsEntryEquation, IsBraidingEquation, Inverses, AreInverseDifferences};
+ghost use Rattle.symbol_index.specs.Sides.{is_on, opposite};
+ghost use Rattle.gauge_fix.specs.Inverses.{matrix, are_on, is_channel, entry_product, entry_side, identity_side, braiding_side, one_side, IsEntryEquation, IsBraidingEquation, AreInverseDifferences};
 
-use field_laws::CharZeroField;
 use fusion_ring::Ring;
 use label_tuples::{all_fours, extended};
 use sparse_poly::Poly;
 use std::alloc::{AllocError, Global};
 use symbol_equations::{Product, Sides, differences, fsym, ginv, summands};
-use symbol_index::{Symbol, Symbols};
-
-/// The labels e that are the rows of an F-matrix, or the labels f that are its columns.
-#[derive(Clone, Copy, Debug, PartialEq, Eq)]
-pub enum Side {
-    Rows,
-    Columns,
-}
+use symbol_index::{Side, Symbol, Symbols, is_on, opposite};
 
 /// The labels at which an entry of a product of an F-matrix and its inverse stands: the labels of
 /// the matrices, and the row and the column of the entry. `channel` and `other` are both e, or both
@@ -49,11 +39,6 @@ pub fn inverses(alloc: Global, ring: &Ring, symbols: &Symbols) -> Result<Vec<Pol
     all.append(&mut others)?;
     Ok(all)
 }
-
-/// In every field the differences vanish exactly where the inverses hold.
-pub fn inverse_law<F: CharZeroField>()
-    ensures { (r x ps : _) → AllElements F.field x → AreInverseDifferences r ps → (All (λ p. eval F.field x p ≡ F.field.zero) ps ↔ Inverses F.field r (symbol_value F.field r x)) }
-{}
 
 // The entries of F times G, for two rows, or of G times F, for two columns.
 fn entry_inverses(
@@ -169,27 +154,6 @@ fn entry_product(
         Side::Columns => [ginv(labels, (at.channel, x)), fsym(labels, (x, at.other))],
     };
     Ok(Some(Product::new(alloc, &factors)?))
-}
-
-// The columns for the rows, and the rows for the columns.
-fn opposite(side: Side) -> Side
-    ensures { result ≡ opposite side }
-{
-    match side {
-        Side::Rows => Side::Columns,
-        Side::Columns => Side::Rows,
-    }
-}
-
-// Whether x is on the side: N(a,b,x) = N(x,c,d) = 1 for the rows, and N(b,c,x) = N(a,x,d) = 1 for the columns.
-fn is_on(ring: &Ring, side: Side, labels: (u8, u8, u8, u8), x: u8) -> bool
-    ensures { result ≡ is_on side ring.now labels x }
-{
-    let (a, b, c, d) = labels;
-    match side {
-        Side::Rows => ring.channel(a, b, x) && ring.channel(x, c, d),
-        Side::Columns => ring.channel(b, c, x) && ring.channel(a, x, d),
-    }
 }
 
 // An entry of the identity: one empty product, or none.

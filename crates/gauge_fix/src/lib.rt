@@ -3,6 +3,7 @@
 
 mod gauge;
 mod inverse;
+pub mod laws;
 
-pub use gauge::{gauge_law, gauges};
-pub use inverse::{InverseLabels, Side, inverse_law, inverses};
+pub use gauge::gauges;
+pub use inverse::{InverseLabels, inverses};

@@ -1,15 +1,13 @@
 //! The hexagon equations of a fusion ring as polynomials in its unknowns.
 #![tactic(auto)]
 
-ghost use Rattle.std.specs.Prelude.{◌≡◌, ◌≤◌, ◌↔◌, IsTrue, if◌then◌else◌, IfOk, All, Contains, vec_len};
-ghost use Rattle.field_laws.specs.Field.{AllElements};
-ghost use Rattle.sparse_poly.specs.Polynomials.{eval};
-ghost use Rattle.symbol_equations.specs.Values.{symbol_value};
+ghost use Rattle.std.specs.Prelude.{◌≡◌, ◌≤◌, ◌↔◌, IsTrue, if◌then◌else◌, IfOk, Contains, vec_len};
 ghost use Rattle.hexagon_gen.specs.declared.HexagonLabels.{HexagonLabels};
-ghost use Rattle.hexagon_gen.specs.Hexagons.{braiding, is_hexagon, is_inner, left_side, right_product, right_side, Hexagons};
+ghost use Rattle.hexagon_gen.specs.Hexagons.{braiding, is_hexagon, is_inner, left_side, right_product, right_side};
 ghost use Rattle.hexagon_gen.specs.Differences.{AreHexagonDifferences};
 
-use field_laws::CharZeroField;
+pub mod laws;
+
 use fusion_ring::Ring;
 use label_tuples::extended;
 use sparse_poly::Poly;
@@ -58,11 +56,6 @@ pub fn hexagons(alloc: Global, ring: &Ring, symbols: &Symbols) -> Result<Vec<Pol
     found.append(&mut second)?;
     Ok(found)
 }
-
-/// In every field the differences vanish exactly where the hexagons hold.
-pub fn hexagon_law<F: CharZeroField>()
-    ensures { (r x ps : _) → AllElements F.field x → AreHexagonDifferences r ps → (All (λ p. eval F.field x p ≡ F.field.zero) ps ↔ Hexagons F.field r (symbol_value F.field r x)) }
-{}
 
 // Both sides of one hexagon.
 fn sides(

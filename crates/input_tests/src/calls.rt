@@ -3,11 +3,12 @@ use crate::devices::{scripted, two_reads, two_writes};
 use braid_io::StdSource;
 use field_laws::Rationals;
 use fusion_ring::{Ring, Triple};
-use hexagon_gen::hexagon_law;
+use hexagon_gen::laws::hexagon_law;
 use label_tuples::{all_fours, all_singles, all_triples, count_labels, extended, first_fault};
-use pentagon_gen::pentagon_law;
+use pentagon_gen::laws::pentagon_law;
 use std::alloc::{AllocError, Global};
-use symbol_equations::{Product, Sides, difference, difference_law, differences, summands, trees};
+use symbol_equations::laws::difference_law;
+use symbol_equations::{Product, Sides, difference, differences, summands, trees};
 use symbol_index::{Symbol, Symbols};
 use table_tests::{Fault, push, push_poly};
 

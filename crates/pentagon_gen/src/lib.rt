@@ -1,15 +1,13 @@
 //! The pentagon equations of a fusion ring as polynomials in its unknowns.
 #![tactic(auto)]
 
-ghost use Rattle.std.specs.Prelude.{◌≡◌, ◌≤◌, ◌↔◌, IsTrue, if◌then◌else◌, IfOk, All, Contains, vec_len};
-ghost use Rattle.field_laws.specs.Field.{AllElements};
-ghost use Rattle.sparse_poly.specs.Polynomials.{eval};
-ghost use Rattle.symbol_equations.specs.Values.{symbol_value};
+ghost use Rattle.std.specs.Prelude.{◌≡◌, ◌≤◌, ◌↔◌, IsTrue, if◌then◌else◌, IfOk, Contains, vec_len};
 ghost use Rattle.pentagon_gen.specs.declared.PentagonLabels.{PentagonLabels};
-ghost use Rattle.pentagon_gen.specs.Pentagon.{is_pentagon, is_inner, left_side, right_product, right_side, Pentagon};
+ghost use Rattle.pentagon_gen.specs.Pentagon.{is_pentagon, is_inner, left_side, right_product, right_side};
 ghost use Rattle.pentagon_gen.specs.Differences.{ArePentagonDifferences};
 
-use field_laws::CharZeroField;
+pub mod laws;
+
 use fusion_ring::Ring;
 use label_tuples::extended;
 use sparse_poly::Poly;
@@ -41,11 +39,6 @@ pub fn pentagons(alloc: Global, ring: &Ring, symbols: &Symbols) -> Result<Vec<Po
     let all = pentagon_labels(alloc, ring)?;
     differences(alloc, symbols, &all, |at| sides(alloc, ring, at))
 }
-
-/// In every field the differences vanish exactly where the pentagons hold.
-pub fn pentagon_law<F: CharZeroField>()
-    ensures { (r x ps : _) → AllElements F.field x → ArePentagonDifferences r ps → (All (λ p. eval F.field x p ≡ F.field.zero) ps ↔ Pentagon F.field r (symbol_value F.field r x)) }
-{}
 
 // Both sides of one pentagon.
 fn sides(alloc: Global, ring: &Ring, at: PentagonLabels) -> Result<Sides, AllocError>

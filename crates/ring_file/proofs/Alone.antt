@@ -7,13 +7,14 @@ use Rattle.std.proofs.lemmas.List.Elements.{All-head, All-map, All-tail, All-wea
 use Rattle.fusion_ring.specs.Fusion.{Fusion}
 use Rattle.symbol_index.specs.declared.Symbol.{Symbol}
 use Rattle.symbol_index.specs.declared.GaugeEntry.{GaugeEntry}
-use Rattle.ring_file.specs.Problems.{max_value, IsGauge, IsGaugeEntry}
+use Rattle.sparse_poly.specs.Contributions.{max_coeff}
+use Rattle.ring_file.specs.Problems.{IsGauge, IsGaugeEntry}
 use Rattle.ring_file.specs.Reading.{IsFirstWithout, HasNumber, NamesUnknown, in_file}
 use Rattle.decimal_text.proofs.Written.{same_signed}
 
 -- ---- the number of a text
 
-pub same_number : (v w : ℤ) → unsigned_abs v ≤ max_value → unsigned_abs w ≤ max_value → signed_decimal v ≡ signed_decimal w → v ≡ w
+pub same_number : (v w : ℤ) → unsigned_abs v ≤ max_coeff → unsigned_abs w ≤ max_coeff → signed_decimal v ≡ signed_decimal w → v ≡ w
 same_number v w h k e = same_signed v w (omega arith) (omega arith) e
 
 -- ---- lists

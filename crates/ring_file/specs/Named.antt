@@ -6,7 +6,8 @@ use Rattle.serde_json.specs.Data.{Data}
 use Rattle.fusion_ring.specs.declared.Triple.{Triple}
 use Rattle.symbol_index.specs.declared.Symbol.{Symbol}
 use Rattle.symbol_index.specs.declared.Symbol.TheVariants.{Fsym, Rsym}
-use Rattle.ring_file.specs.Problems.{max_value, IsGauge}
+use Rattle.sparse_poly.specs.Contributions.{max_coeff}
+use Rattle.ring_file.specs.Problems.{IsGauge}
 use Rattle.ring_file.specs.Reading.{HasNumber, IsFirstWithout, NamesUnknown, in_file}
 use Rattle.fusion_ring.specs.Fusion.{Fusion}
 use Rattle.symbol_index.specs.declared.GaugeEntry.{GaugeEntry}
@@ -47,7 +48,7 @@ valued_entry e = (named_symbol e.symbol, signed_decimal e.value)
 -- these are the entries of the file, each with its value in range
 pub record AreValued (es : List (Symbol × List ℕ)) (entries : List ValuedEntry) : Type 0 where
   pub same : es ≡ map valued_entry entries
-  pub in_range : All (λ e. unsigned_abs e.value ≤ max_value) entries
+  pub in_range : All (λ e. unsigned_abs e.value ≤ max_coeff) entries
 
 abbrev pub IsNumberFault : List (Symbol × List ℕ) → ProblemFault → Type 0
 IsNumberFault es NotJson = ⊥

@@ -1,6 +1,7 @@
 -- A problem: a fusion ring and gauge entries, each of which gives an unknown F or R a value.
 use Rattle.std.specs.Prelude.{◌≡◌, ℕ, ◌≤◌, Bool, true, false, unsigned_abs, List}
 use Rattle.std.specs.List.{All}
+use Rattle.sparse_poly.specs.Contributions.{max_coeff}
 use Rattle.fusion_ring.specs.Fusion.{Fusion}
 use Rattle.symbol_index.specs.Symbols.{is_unknown}
 use Rattle.symbol_index.specs.declared.Symbol.{Symbol}
@@ -12,10 +13,6 @@ pub record Stated : Type 0 where
   pub ring : Fusion
   pub gauge : List GaugeEntry
 
--- the greatest absolute value of a gauge value, 2^127 - 1
-abbrev pub max_value : ℕ
-max_value = 170141183460469231731687303715884105727
-
 -- the symbol is an unknown F or R of the ring
 abbrev pub is_gauge_symbol : Fusion → Symbol → Bool
 is_gauge_symbol r (Fsym a b c d e f) = is_unknown r (Fsym a b c d e f)
@@ -25,7 +22,7 @@ is_gauge_symbol r (Sinv a b c) = false
 
 pub record IsGaugeEntry (r : Fusion) (e : GaugeEntry) : Type 0 where
   pub symbol : is_gauge_symbol r e.symbol ≡ true
-  pub value : unsigned_abs e.value ≤ max_value
+  pub value : unsigned_abs e.value ≤ max_coeff
 
 abbrev pub IsGauge : Fusion → List GaugeEntry → Type 0
 IsGauge r entries = All (IsGaugeEntry r) entries

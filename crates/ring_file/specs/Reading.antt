@@ -10,7 +10,8 @@ use Rattle.fusion_ring.specs.Faults.{IsRingOf, IsRingFault}
 use Rattle.fusion_ring.specs.declared.RingFault.TheVariants.{OutOfMemory as ring_memory}
 use Rattle.symbol_index.specs.declared.Symbol.{Symbol}
 use Rattle.symbol_index.specs.declared.GaugeEntry.{GaugeEntry}
-use Rattle.ring_file.specs.Problems.{Stated, max_value, is_gauge_symbol, IsGauge}
+use Rattle.sparse_poly.specs.Contributions.{max_coeff}
+use Rattle.ring_file.specs.Problems.{Stated, is_gauge_symbol, IsGauge}
 use Rattle.ring_file.specs.Files.{File, IsFile, checks, first_failing}
 use Rattle.ring_file.specs.declared.problem.ProblemFault.{ProblemFault}
 use Rattle.ring_file.specs.declared.problem.ProblemFault.TheVariants.{NotJson, Shape, Ring, GaugeNumber, GaugeSymbol, OutOfMemory}
@@ -21,7 +22,7 @@ IsReading bytes d = IsUtf8 bytes × (read bytes ≡ Some d)
 
 -- the text is the decimal text of the number, which is in range: it has no leading zeros, and is not `-0`
 abbrev pub IsNumberText : List ℕ → ℤ → Type 0
-IsNumberText text v = IsSignedText max_value text v
+IsNumberText text v = IsSignedText max_coeff text v
 
 abbrev pub HasNumber : Symbol × List ℕ → Type 0
 HasNumber e = (v : ℤ) × IsNumberText e.1 v

@@ -2,7 +2,8 @@
 
 ghost use Rattle.std.specs.Prelude.{◌≡◌, ◌≤◌, ℤ, false, true, map, MatchOption, MatchResult, unsigned_abs};
 ghost use Rattle.std.specs.List.{All};
-ghost use Rattle.ring_file.specs.Problems.{max_value, is_gauge_symbol, IsGauge};
+ghost use Rattle.sparse_poly.specs.Contributions.{max_coeff};
+ghost use Rattle.ring_file.specs.Problems.{is_gauge_symbol, IsGauge};
 ghost use Rattle.ring_file.specs.Reading.{IsNumberText, in_file};
 ghost use Rattle.ring_file.specs.Named.{named_symbol, written_entry, valued_entry, AreValued, IsNumberFault, AreGauge, IsSymbolFault};
 
@@ -113,7 +114,7 @@ pub(crate) fn gauge(
     ring: &Ring,
     entries: &[ValuedEntry],
 ) -> Result<Vec<GaugeEntry>, ProblemFault>
-    requires { All (λ e. unsigned_abs e.value ≤ max_value) entries.now }
+    requires { All (λ e. unsigned_abs e.value ≤ max_coeff) entries.now }
     ensures { MatchResult result (λ v. AreGauge ring.now (map valued_entry entries.now) v.items) (IsSymbolFault ring.now (map valued_entry entries.now)) }
 {
     let mut gauge = Vec::new(alloc);

@@ -7,7 +7,7 @@ ghost use Rattle.root_input.specs.Inputs.{HasRoot, IsRootStop};
 ghost use Rattle.root_input.specs.declared.fault.RootStop.TheVariants.{OutOfMemory};
 
 use ring_file::problem_answer_law;
-use root_system::root_answer_law;
+use root_system::laws::root_answer_law;
 
 /// Where a source told its bytes, these are the bytes that were read, if all were; and it was refused as too long only where they are more than the
 /// limit. Where also no read failed, it was not read to its end only for this, or for want of memory.

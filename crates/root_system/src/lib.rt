@@ -2,9 +2,8 @@
 #![tactic(auto)]
 
 mod ascending;
-mod laws;
+pub mod laws;
 mod primitive;
 mod root;
 
-pub use laws::{one_root_law, root_answer_law};
-pub use root::{Root, RootFault, root_law};
+pub use root::{Root, RootFault};

@@ -1,19 +1,15 @@
 //! The root of a problem.
 
-ghost use Rattle.std.specs.Prelude.{◌≡◌, ◌≤◌, ◌↔◌, IfOk, MatchResult, All};
+ghost use Rattle.std.specs.Prelude.{◌≡◌, ◌≤◌, IfOk, MatchResult};
 ghost use Rattle.root_system.specs.Root.{AreDifferencesOf, AreRootEquations};
-ghost use Rattle.field_laws.specs.Field.{AllElements};
-ghost use Rattle.sparse_poly.specs.Polynomials.{eval};
-ghost use Rattle.root_system.specs.Solution.{Solution};
 
 use crate::ascending::ascending;
 use crate::primitive::primitive_parts;
-use field_laws::CharZeroField;
-use gauge_fix::{gauge_law, gauges, inverse_law, inverses};
-use hexagon_gen::{hexagon_law, hexagons};
-use pentagon_gen::{pentagon_law, pentagons};
+use gauge_fix::{gauges, inverses};
+use hexagon_gen::hexagons;
+use pentagon_gen::pentagons;
 use ring_file::Problem;
-use sparse_poly::{Poly, primitive_law};
+use sparse_poly::Poly;
 use std::alloc::{AllocError, Global};
 use std::marker::Model;
 use symbol_index::{SymbolFault, Symbols};
@@ -113,17 +109,6 @@ impl Root {
     {
         &self.equations
     }
-}
-
-/// In every field the root vanishes exactly at the solutions.
-pub fn root_law<F: CharZeroField>()
-    ensures { (p x qs : _) → AllElements F.field x → AreRootEquations p qs → (All (λ q. eval F.field x q ≡ F.field.zero) qs ↔ Solution F.field p x) }
-{
-    pentagon_law::<F>();
-    hexagon_law::<F>();
-    inverse_law::<F>();
-    gauge_law::<F>();
-    primitive_law::<F>();
 }
 
 // The root equations of a problem.

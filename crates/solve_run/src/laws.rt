@@ -9,7 +9,7 @@ ghost use Rattle.solve_run.specs.declared.status.Status.TheVariants.{Usage, OutO
 use field_laws::CharZeroField;
 use ring_make::made_law;
 use root_input::{reading_law, root_stop_law};
-use root_system::root_answer_law;
+use root_system::laws::root_answer_law;
 use run_words::settings_law;
 
 /// Each status comes exactly where it is told to.

@@ -17,7 +17,7 @@ use cert_summary::write_summary;
 use cert_text::write_certificate;
 use field_laws::CharZeroField;
 use leaf_cert::{Certificate, RawEntry};
-use root_system::root_law;
+use root_system::laws::root_law;
 use run_words::{settings_law, settings_of};
 use std::alloc::{AllocError, Global};
 use std::sync::Wait;

@@ -2,15 +2,13 @@
 #![tactic(auto)]
 
 ghost use Rattle.std.specs.Prelude.{◌≡◌, ◌≤◌, ◌↔◌, IsTrue, [], ◌∷◌, ◌++◌, length, Contains, IfOk, OnOk, vec_len};
-ghost use Rattle.field_laws.specs.Field.{AllElements};
-ghost use Rattle.sparse_poly.specs.Polynomials.{eval};
-ghost use Rattle.symbol_equations.specs.Values.{symbol_value, side_value};
 ghost use Rattle.symbol_equations.specs.Differences.{product_terms, side_terms, IsDifference, AreTheirSummands, AreTheirDifferences};
 ghost use Rattle.symbol_equations.specs.Trees.{is_tree};
 ghost use Rattle.symbol_equations.specs.Contributions.{optional_terms, with_coeff, IsLow};
 ghost use Rattle.monomial.specs.Monomials.{monomial_times};
 
-use field_laws::CharZeroField;
+pub mod laws;
+
 use fusion_ring::Ring;
 use label_tuples::extended;
 use monomial::{MonoFault, Monomial};
@@ -242,11 +240,6 @@ pub fn differences<L: Copy, F: Fn(L) -> Result<Sides, AllocError>>(
     }
     Ok(found)
 }
-
-/// In every field the difference vanishes exactly where both sides have one value.
-pub fn difference_law<F: CharZeroField>()
-    ensures { (r x left right p : _) → AllElements F.field x → IsDifference r left right p → ((eval F.field x p ≡ F.field.zero) ↔ (side_value F.field (symbol_value F.field r x) left ≡ side_value F.field (symbol_value F.field r x) right)) }
-{}
 
 /// The labels a, b, e, c, d for which e is a channel of a and b, and d one of e and c, in
 /// no order that is promised. It fails only where no memory is left.

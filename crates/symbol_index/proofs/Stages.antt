@@ -4,7 +4,10 @@ use Rattle.std.proofs.Common.{◌∙◌, ap}
 use Rattle.std.proofs.lemmas.List.Elements.{filter_agree}
 use Rattle.label_tuples.specs.Extended.{all_triples, all_sixes}
 use Rattle.fusion_ring.specs.Fusion.{Fusion, channel}
-use Rattle.symbol_index.specs.Symbols.{is_unknown, fsym, ginv, rsym}
+use Rattle.symbol_index.specs.declared.sides.Side.{Side}
+use Rattle.symbol_index.specs.declared.sides.Side.TheVariants.{Rows, Columns}
+use Rattle.symbol_index.specs.Symbols.{is_unknown, rsym}
+use Rattle.symbol_index.specs.Sides.{is_on, opposite, entry}
 use Rattle.symbol_index.specs.Appended.{is_nontrivial}
 
 -- a, b, c are the unit; e, f, g, h the four channels
@@ -36,19 +39,15 @@ r_tests false true e = refl
 r_tests false false e = refl
 
 module _ (r : Fusion) (n : ℕ) (is : n ≡ r.labels) where
-  pub f_by_stages :
-      filter (λ t. ((is_nontrivial (t.0, t.1, t.2) && true) && (channel r t.0 t.1 t.4 && channel r t.4 t.2 t.3)) && (channel r t.1 t.2 t.5 && channel r t.0 t.5 t.3)) (all_sixes n)
-      ≡ filter (λ t. is_unknown r (fsym t)) (all_sixes r.labels)
-  f_by_stages =
-      filter_agree _ (λ t. is_unknown r (fsym t)) (λ t. f_tests (t.0 == 0) (t.1 == 0) (t.2 == 0) (channel r t.0 t.1 t.4) (channel r t.4 t.2 t.3) (channel r t.1 t.2 t.5) (channel r t.0 t.5 t.3)) (all_sixes n)
-      ∙ ap (λ m. filter (λ t. is_unknown r (fsym t)) (all_sixes m)) is
+  entry_tests : (s : Side) (t : ℕ × ℕ × ℕ × ℕ × ℕ × ℕ)
+      → ((is_nontrivial (t.0, t.1, t.2) && true) && is_on s r (t.0, t.1, t.2, t.3) t.4) && is_on (opposite s) r (t.0, t.1, t.2, t.3) t.5 ≡ is_unknown r (entry s t)
+  entry_tests Rows t = f_tests (t.0 == 0) (t.1 == 0) (t.2 == 0) (channel r t.0 t.1 t.4) (channel r t.4 t.2 t.3) (channel r t.1 t.2 t.5) (channel r t.0 t.5 t.3)
+  entry_tests Columns t = g_tests (t.0 == 0) (t.1 == 0) (t.2 == 0) (channel r t.0 t.1 t.5) (channel r t.5 t.2 t.3) (channel r t.1 t.2 t.4) (channel r t.0 t.4 t.3)
 
-  pub g_by_stages :
-      filter (λ t. ((is_nontrivial (t.0, t.1, t.2) && true) && (channel r t.1 t.2 t.4 && channel r t.0 t.4 t.3)) && (channel r t.0 t.1 t.5 && channel r t.5 t.2 t.3)) (all_sixes n)
-      ≡ filter (λ t. is_unknown r (ginv t)) (all_sixes r.labels)
-  g_by_stages =
-      filter_agree _ (λ t. is_unknown r (ginv t)) (λ t. g_tests (t.0 == 0) (t.1 == 0) (t.2 == 0) (channel r t.0 t.1 t.5) (channel r t.5 t.2 t.3) (channel r t.1 t.2 t.4) (channel r t.0 t.4 t.3)) (all_sixes n)
-      ∙ ap (λ m. filter (λ t. is_unknown r (ginv t)) (all_sixes m)) is
+  pub by_stages : (s : Side) →
+      filter (λ t. ((is_nontrivial (t.0, t.1, t.2) && true) && is_on s r (t.0, t.1, t.2, t.3) t.4) && is_on (opposite s) r (t.0, t.1, t.2, t.3) t.5) (all_sixes n)
+      ≡ filter (λ t. is_unknown r (entry s t)) (all_sixes r.labels)
+  by_stages s = filter_agree _ (λ t. is_unknown r (entry s t)) (entry_tests s) (all_sixes n) ∙ ap (λ m. filter (λ t. is_unknown r (entry s t)) (all_sixes m)) is
 
   pub r_by_stages :
       filter (λ t. ((true && not (t.0 == 0)) && not (t.1 == 0)) && channel r t.0 t.1 t.2) (all_triples n)

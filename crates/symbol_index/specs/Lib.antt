@@ -1,3 +1,4 @@
 pub mod Symbols
 pub mod Order
 pub mod Appended
+pub mod Sides

@@ -7,10 +7,12 @@ ghost use Rattle.std.specs.List.Sorted.{IsBinarySearchResult};
 ghost use Rattle.symbol_index.specs.Order.{symbol_cmp};
 
 mod laws;
+mod sides;
 mod unknowns;
 
 use fusion_ring::Ring;
 pub use laws::number_law;
+pub use sides::{Side, is_on, opposite};
 use std::alloc::{AllocError, Global};
 use std::marker::Model;
 use thiserror::Error;

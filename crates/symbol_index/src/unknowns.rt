@@ -2,9 +2,11 @@
 
 ghost use Rattle.std.specs.Prelude.{◌≡◌, ◌≤◌, IfOk, OnOk, MatchResult, filter, length};
 ghost use Rattle.label_tuples.specs.Extended.{all_triples, all_sixes};
-ghost use Rattle.symbol_index.specs.Symbols.{is_unknown, fsym, ginv, rsym, unknowns, max_unknowns, IsSymbolFault};
+ghost use Rattle.symbol_index.specs.Symbols.{is_unknown, rsym, unknowns, max_unknowns, IsSymbolFault};
+ghost use Rattle.symbol_index.specs.Sides.{entry};
 ghost use Rattle.symbol_index.specs.Appended.{is_nontrivial, IsAppended};
 
+use crate::sides::{Side, is_on, opposite};
 use crate::{Symbol, SymbolFault};
 use fusion_ring::Ring;
 use label_tuples::extended;
@@ -16,37 +18,19 @@ type Six = (u8, u8, u8, u8, u8, u8);
 
 type Three = (u8, u8, u8);
 
-/// The labels (a,b,c,d,e,f) of the unknown F(a,b,c,d;e,f), in lexicographic order.
-fn unknown_f(alloc: Global, ring: &Ring) -> Result<Vec<Six>, AllocError>
-    ensures { IfOk result (λ v. v.items ≡ filter (λ t. is_unknown ring.now (fsym t)) (all_sixes ring.now.labels)) }
+/// The labels (a,b,c,d,e,f) of the unknown F(a,b,c,d;e,f), where the rows e are first, or (a,b,c,d,f,e) of the unknown
+/// G(a,b,c,d;f,e), where the columns f are, in lexicographic order.
+fn unknown_entries(alloc: Global, ring: &Ring, first: Side) -> Result<Vec<Six>, AllocError>
+    ensures { IfOk result (λ v. v.items ≡ filter (λ t. is_unknown ring.now (entry first t)) (all_sixes ring.now.labels)) }
 {
     let n = ring.labels();
     let found = nontrivial(alloc, n)?;
     let found = extended(alloc, &found, n, |(a, b, c), d| Some((a, b, c, d)))?;
-    let found = extended(alloc, &found, n, |(a, b, c, d), e| {
-        let is_left = ring.channel(a, b, e) && ring.channel(e, c, d);
-        is_left.then_some((a, b, c, d, e))
+    let found = extended(alloc, &found, n, |(a, b, c, d), x| {
+        is_on(ring, first, (a, b, c, d), x).then_some((a, b, c, d, x))
     })?;
-    extended(alloc, &found, n, |(a, b, c, d, e), f| {
-        let is_right = ring.channel(b, c, f) && ring.channel(a, f, d);
-        is_right.then_some((a, b, c, d, e, f))
-    })
-}
-
-/// The labels (a,b,c,d,f,e) of the unknown G(a,b,c,d;f,e), in lexicographic order.
-fn unknown_g(alloc: Global, ring: &Ring) -> Result<Vec<Six>, AllocError>
-    ensures { IfOk result (λ v. v.items ≡ filter (λ t. is_unknown ring.now (ginv t)) (all_sixes ring.now.labels)) }
-{
-    let n = ring.labels();
-    let found = nontrivial(alloc, n)?;
-    let found = extended(alloc, &found, n, |(a, b, c), d| Some((a, b, c, d)))?;
-    let found = extended(alloc, &found, n, |(a, b, c, d), f| {
-        let is_right = ring.channel(b, c, f) && ring.channel(a, f, d);
-        is_right.then_some((a, b, c, d, f))
-    })?;
-    extended(alloc, &found, n, |(a, b, c, d, f), e| {
-        let is_left = ring.channel(a, b, e) && ring.channel(e, c, d);
-        is_left.then_some((a, b, c, d, f, e))
+    extended(alloc, &found, n, |(a, b, c, d, x), y| {
+        is_on(ring, opposite(first), (a, b, c, d), y).then_some((a, b, c, d, x, y))
     })
 }
 
@@ -94,8 +78,8 @@ pub fn numbered_unknowns(alloc: Global, ring: &Ring) -> Result<Vec<Symbol>, Symb
     ensures list { MatchResult result (λ v. v.items ≡ unknowns ring.now) (IsSymbolFault ring.now) }
     ensures few { OnOk result (length (unknowns ring.now) ≤ max_unknowns) }
 {
-    let f = unknown_f(alloc, ring)?;
-    let g = unknown_g(alloc, ring)?;
+    let f = unknown_entries(alloc, ring, Side::Rows)?;
+    let g = unknown_entries(alloc, ring, Side::Columns)?;
     let r = unknown_r(alloc, ring)?;
     let count = f.len() as u64 + g.len() as u64 + 2 * r.len() as u64;
     if count > MAX_UNKNOWNS {

@@ -3,7 +3,8 @@ use Rattle.std.specs.Prelude.{Contains}
 use Rattle.std.proofs.lemmas.Result.{IfOk-weaker}
 use Rattle.label_tuples.specs.Extended.{kept, fives, all_fours}
 use Rattle.label_tuples.proofs.Members.{list_of_more}
-use Rattle.gauge_fix.specs.Inverses.{is_on, matrix}
+use Rattle.symbol_index.specs.Sides.{is_on}
+use Rattle.gauge_fix.specs.Inverses.{matrix}
 use Rattle.gauge_fix.proofs.Stages.{inverse_tuples, on_by_stages}
 use Rattle.gauge_fix.proofs.inverse.entry_labels.Goals as goal
 

@@ -1,7 +1,7 @@
 use Rattle.symbol_equations.proofs.Listed.{both_kinds}
 use Rattle.std.proofs.Common.{◌⊎◌}
 use Rattle.gauge_fix.specs.Inverses.{IsEntryEquation, IsBraidingEquation}
-use Rattle.gauge_fix.specs.declared.inverse.Side.TheVariants.{Rows, Columns}
+use Rattle.symbol_index.specs.declared.sides.Side.TheVariants.{Rows, Columns}
 use Rattle.gauge_fix.proofs.inverse.inverses.Goals as goal
 
 pub returns : goal.returns

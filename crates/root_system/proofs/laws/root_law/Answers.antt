@@ -2,7 +2,7 @@ use Rattle.std.proofs.Common.{◌≡◌, refl, List}
 use Rattle.sparse_poly.specs.declared.Term.{Term}
 use Rattle.sparse_poly.specs.Polynomials.{eval}
 use Rattle.root_system.proofs.Vanishing.{all_of_parts, all_four}
-use Rattle.root_system.proofs.root.root_law.Goals as goal
+use Rattle.root_system.proofs.laws.root_law.Goals as goal
 
 pub returns : goal.returns
 returns g c p x qs elements are =

@@ -4,8 +4,8 @@ use Rattle.symbol_equations.specs.Values.{symbol_value, side_value}
 use Rattle.symbol_equations.proofs.Listed.{all_vanish, all_vanish_at}
 use Rattle.gauge_fix.specs.Inverses.{are_on, is_channel, entry_side, identity_side, braiding_side, one_side, IsInverseEquation}
 use Rattle.gauge_fix.specs.declared.inverse.InverseLabels.{InverseLabels}
-use Rattle.gauge_fix.specs.declared.inverse.Side.TheVariants.{Rows, Columns}
-use Rattle.gauge_fix.proofs.inverse.inverse_law.Goals as goal
+use Rattle.symbol_index.specs.declared.sides.Side.TheVariants.{Rows, Columns}
+use Rattle.gauge_fix.proofs.laws.inverse_law.Goals as goal
 
 pub returns : goal.returns
 returns g c r x ps elements are =

@@ -5,7 +5,7 @@ use Rattle.symbol_equations.proofs.Listed.{all_vanish, all_vanish_at}
 use Rattle.hexagon_gen.specs.declared.Hexagon.TheVariants.{First, Second}
 use Rattle.hexagon_gen.specs.Hexagons.{is_hexagon, left_side, right_side}
 use Rattle.hexagon_gen.specs.Differences.{IsHexagonEquation}
-use Rattle.hexagon_gen.proofs.hexagon_law.Goals as goal
+use Rattle.hexagon_gen.proofs.laws.hexagon_law.Goals as goal
 
 pub returns : goal.returns
 returns g c r x ps elements are =

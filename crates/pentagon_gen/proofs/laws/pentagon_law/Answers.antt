@@ -4,7 +4,7 @@ use Rattle.symbol_equations.specs.Values.{symbol_value, side_value}
 use Rattle.symbol_equations.proofs.Listed.{all_vanish, all_vanish_at}
 use Rattle.pentagon_gen.specs.Pentagon.{is_pentagon, left_side, right_side}
 use Rattle.pentagon_gen.specs.Differences.{IsPentagonEquation}
-use Rattle.pentagon_gen.proofs.pentagon_law.Goals as goal
+use Rattle.pentagon_gen.proofs.laws.pentagon_law.Goals as goal
 
 pub returns : goal.returns
 returns g c r x ps elements are =
