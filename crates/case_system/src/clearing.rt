@@ -9,6 +9,7 @@ ghost use Rattle.case_system.specs.declared.kept.Kept.{Kept};
 ghost use Rattle.case_system.specs.Appending.{Grows, IsClearedBy, IsStrippedBy, AreStrippedBy};
 ghost use Rattle.case_system.specs.CaseLines.{all_lines};
 ghost use Rattle.case_system.specs.Facts.{HasFacts, HasBareFacts, HaveFacts};
+ghost use Rattle.case_system.specs.Outlines.{IsOutlineOf};
 ghost use Rattle.case_system.specs.Kept.{equations_of, AreAddedCleared};
 ghost use Rattle.case_system.specs.Places.{Ascend};
 
@@ -16,6 +17,7 @@ use crate::conditions::Conditions;
 use crate::copies::copied_equation;
 use crate::kept::{Facts, Kept, KeptList, add};
 use crate::lines::CaseLines;
+use crate::outline::Outline;
 use case_rules::Equation;
 use derive_lines::{Item, Line, Way, is_same};
 use sparse_poly::{Poly, Stripped};
@@ -159,9 +161,13 @@ fn may_strip_by(condition: &Poly, poly: &Poly) -> bool
 }
 
 // Whether one of some conditions may be stripped off a polynomial. Where one is a variable that divides it, one may.
-fn may_strip(conditions: &[Poly], poly: &Poly) -> bool
+fn may_strip(conditions: &[Poly], poly: &Poly, outline: Outline) -> bool
+    requires { IsOutlineOf poly.now outline }
     ensures { result ≡ false → (v : ℕ) → Contains conditions.now (variable v) → IsDividedBy v poly.now → ⊥ }
 {
+    if !outline.may_be_divided() {
+        return false;
+    }
     for condition in conditions {
         if may_strip_by(condition, poly) {
             return true;
@@ -192,7 +198,13 @@ fn strip_equation(
     ensures bare { IfOk result (λ k. HasBareFacts conditions.now k.equation.poly k.facts) }
 {
     let _terms = equation.poly.terms();
-    if facts.clean > 0 && !may_strip(conditions_from(conditions, facts.clean), &equation.poly) {
+    if facts.clean > 0
+        && !may_strip(
+            conditions_from(conditions, facts.clean),
+            &equation.poly,
+            facts.outline,
+        )
+    {
         return Ok(Kept {
             equation: copied_equation(equation)?,
             facts,
