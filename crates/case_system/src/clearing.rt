@@ -17,7 +17,6 @@ use crate::conditions::Conditions;
 use crate::copies::copied_equation;
 use crate::kept::{Facts, Kept, KeptList, add};
 use crate::lines::CaseLines;
-use crate::outline::Outline;
 use case_rules::Equation;
 use derive_lines::{Item, Line, Way, is_same};
 use sparse_poly::{Poly, Stripped};
@@ -161,11 +160,11 @@ fn may_strip_by(condition: &Poly, poly: &Poly) -> bool
 }
 
 // Whether one of some conditions may be stripped off a polynomial. Where one is a variable that divides it, one may.
-fn may_strip(conditions: &[Poly], poly: &Poly, outline: Outline) -> bool
-    requires { IsOutlineOf poly.now outline }
+fn may_strip(conditions: &[Poly], poly: &Poly, facts: Facts) -> bool
+    requires { IsOutlineOf poly.now facts.outline }
     ensures { result ≡ false → (v : ℕ) → Contains conditions.now (variable v) → IsDividedBy v poly.now → ⊥ }
 {
-    if !outline.may_be_divided() {
+    if !facts.outline.may_be_divided() {
         return false;
     }
     for condition in conditions {
@@ -202,7 +201,7 @@ fn strip_equation(
         && !may_strip(
             conditions_from(conditions, facts.clean),
             &equation.poly,
-            facts.outline,
+            facts,
         )
     {
         return Ok(Kept {
