@@ -160,13 +160,9 @@ fn may_strip_by(condition: &Poly, poly: &Poly) -> bool
 }
 
 // Whether one of some conditions may be stripped off a polynomial. Where one is a variable that divides it, one may.
-fn may_strip(conditions: &[Poly], poly: &Poly, facts: Facts) -> bool
-    requires { IsOutlineOf poly.now facts.outline }
+fn may_strip(conditions: &[Poly], poly: &Poly) -> bool
     ensures { result ≡ false → (v : ℕ) → Contains conditions.now (variable v) → IsDividedBy v poly.now → ⊥ }
 {
-    if !facts.outline.may_be_divided() {
-        return false;
-    }
     for condition in conditions {
         if may_strip_by(condition, poly) {
             return true;
@@ -183,6 +179,19 @@ fn conditions_from(conditions: &[Poly], from: usize) -> &[Poly]
     &conditions[from..]
 }
 
+// Whether one of the conditions that an equation is not known to be clean under may be stripped off it. Where one is a variable that divides it,
+// one may.
+fn may_strip_later(conditions: &[Poly], poly: &Poly, facts: Facts) -> bool
+    requires within { facts.clean ≤ length conditions.now }
+    requires outline { IsOutlineOf poly.now facts.outline }
+    ensures { result ≡ false → (v : ℕ) → Contains (drop facts.clean conditions.now) (variable v) → IsDividedBy v poly.now → ⊥ }
+{
+    if !facts.outline.may_be_divided() {
+        return false;
+    }
+    may_strip(conditions_from(conditions, facts.clean), poly)
+}
+
 // Strips an equation, with a line where it changes. One that is clean under the first conditions stays as it is where no later one may be
 // stripped off it.
 fn strip_equation(
@@ -197,13 +206,7 @@ fn strip_equation(
     ensures bare { IfOk result (λ k. HasBareFacts conditions.now k.equation.poly k.facts) }
 {
     let _terms = equation.poly.terms();
-    if facts.clean > 0
-        && !may_strip(
-            conditions_from(conditions, facts.clean),
-            &equation.poly,
-            facts,
-        )
-    {
+    if facts.clean > 0 && !may_strip_later(conditions, &equation.poly, facts) {
         return Ok(Kept {
             equation: copied_equation(equation)?,
             facts,

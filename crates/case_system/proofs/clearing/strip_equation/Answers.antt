@@ -14,20 +14,20 @@ use Rattle.case_system.specs.Outlines.{IsOutlineOf}
 use Rattle.case_system.specs.CaseLines.{all_lines}
 use Rattle.case_system.proofs.clearing.strip_equation.Goals as goal
 
-pub returns-then-not-may_strip-clause-stripped : goal.returns-then-not-may_strip-clause-stripped
-returns-then-not-may_strip-clause-stripped c =
+pub returns-then-not-may_strip_later-clause-stripped : goal.returns-then-not-may_strip_later-clause-stripped
+returns-then-not-may_strip_later-clause-stripped c =
     let counted : c.args.facts.clean ≢ 0 = λ e. (let more = c.if-facts-gt0.true in omega (arith, more, e)) in
     passed_strip c.args.conditions.now (all_lines c.args.lines.now) c.args.equation.now c.in_ok-copied_equation.field-0 c.args.facts.clean c.terms-terms.ensures.poly c.requires.clean counted
-    (subst (λ (ns : List (List Term)). (v : ℕ) → Contains ns (variable v) → IsDividedBy v c.args.equation.now.poly → ⊥) c.conditions_from.ensures (c.may_strip.ensures c.if-not-may_strip.true))
+    (c.may_strip_later.ensures c.if-not-may_strip_later.true)
     c.in_ok-copied_equation.ensures
 
-pub returns-then-not-may_strip-clause-bare : goal.returns-then-not-may_strip-clause-bare
-returns-then-not-may_strip-clause-bare c =
+pub returns-then-not-may_strip_later-clause-bare : goal.returns-then-not-may_strip_later-clause-bare
+returns-then-not-may_strip_later-clause-bare c =
     let counted : c.args.facts.clean ≢ 0 = λ e. (let more = c.if-facts-gt0.true in omega (arith, more, e)) in
     subst (λ (x : Equation). HasBareFacts c.args.conditions.now x.poly c.args.facts) (sym c.in_ok-copied_equation.ensures)
     (record {
       bare = passed_bare c.args.conditions.now c.args.equation.now.poly c.args.facts.clean c.requires.clean counted
-          (subst (λ (ns : List (List Term)). (v : ℕ) → Contains ns (variable v) → IsDividedBy v c.args.equation.now.poly → ⊥) c.conditions_from.ensures (c.may_strip.ensures c.if-not-may_strip.true));
+          (c.may_strip_later.ensures c.if-not-may_strip_later.true);
       outline = c.requires.outline;
     })
 
