@@ -1,5 +1,5 @@
 -- A problem: a fusion ring and gauge entries, each of which gives an unknown F or R a value.
-use Rattle.std.specs.Prelude.{◌≡◌, ℕ, ◌≤◌, Bool, true, false, unsigned_abs, List}
+use Rattle.std.specs.Prelude.{◌≡◌, ◌≤◌, Bool, true, false, unsigned_abs, List}
 use Rattle.std.specs.List.{All}
 use Rattle.sparse_poly.specs.Contributions.{max_coeff}
 use Rattle.fusion_ring.specs.Fusion.{Fusion}
