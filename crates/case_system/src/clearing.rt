@@ -131,10 +131,11 @@ pub fn clear_equations(
     ensures ascending { IfOk result (λ l. Ascend l.equations.items) }
     ensures known { IfOk result (λ l. HaveFacts conditions.now l.equations.items l.facts.items) }
 {
+    let n = stripped.len();
     let mut left = VecDeque::from(stripped);
     let mut list = KeptList {
-        equations: Vec::new(alloc),
-        facts: Vec::new(alloc),
+        equations: Vec::with_capacity(alloc, n)?,
+        facts: Vec::with_capacity(alloc, n)?,
     };
     'equations: while let Some(kept) = left.pop_front() {
         let cleared = clear_equation(alloc, conditions, kept, lines)?;
