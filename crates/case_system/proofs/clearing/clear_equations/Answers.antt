@@ -13,14 +13,14 @@ use Rattle.case_system.proofs.clearing.clear_equations.Goals as goal
 pub equations-init : goal.equations-init
 equations-init c =
     let same : c.from-left.result.items ≡ c.args.stripped.items = search rules in
-    let none : c.new.result.items ≡ [] = search rules in
-    let no_counts : c.new-2.result.items ≡ [] = search rules in
+    let none : c.in_ok-with_capacity.field-0.items ≡ [] = search rules in
+    let no_counts : c.in_ok-with_capacity-2.field-0.items ≡ [] = search rules in
     let bare : AllByRecursion (λ (k : Kept). HasBareFacts c.args.conditions.now k.equation.poly k.facts) c.from-left.result.items = subst (AllByRecursion (λ (k : Kept). HasBareFacts c.args.conditions.now k.equation.poly k.facts)) (sym same) c.requires in
     record {
-      cleared = subst (λ ks. AreBeingAdded c.args.conditions.now (all_lines c.args.lines.now) (equations_of c.args.stripped.items) (equations_of ks) (all_lines c.args.lines.now) c.new.result.items) (sym same) (adding_begun c.args.conditions.now (all_lines c.args.lines.now) (equations_of c.args.stripped.items) c.new.result.items none);
+      cleared = subst (λ ks. AreBeingAdded c.args.conditions.now (all_lines c.args.lines.now) (equations_of c.args.stripped.items) (equations_of ks) (all_lines c.args.lines.now) c.in_ok-with_capacity.field-0.items) (sym same) (adding_begun c.args.conditions.now (all_lines c.args.lines.now) (equations_of c.args.stripped.items) c.in_ok-with_capacity.field-0.items none);
       bare = bare;
       ascending = subst Ascend (sym none) ascend_none;
-      known = subst (λ es. HaveFacts c.args.conditions.now es c.new-2.result.items) (sym none) (subst (HaveFacts c.args.conditions.now []) (sym no_counts) tt);
+      known = subst (λ es. HaveFacts c.args.conditions.now es c.in_ok-with_capacity-2.field-0.items) (sym none) (subst (HaveFacts c.args.conditions.now []) (sym no_counts) tt);
     }
 
 pub add-requires-clause-facts : goal.add-requires-clause-facts

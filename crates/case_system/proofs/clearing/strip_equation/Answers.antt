@@ -1,9 +1,5 @@
-use Rattle.std.proofs.Common.{rules, arith, ◌≡◌, refl, sym, ◌∙◌, List, subst}
-use Rattle.std.specs.Prelude.{ℕ, ◌≢◌}
-use Rattle.std.specs.List.{Contains}
-use Rattle.sparse_poly.specs.declared.Term.{Term}
-use Rattle.sparse_poly.specs.Polynomials.{variable}
-use Rattle.sparse_poly.specs.Clearing.{IsDividedBy}
+use Rattle.std.proofs.Common.{rules, arith, ◌≡◌, refl, sym, ◌∙◌, subst}
+use Rattle.std.specs.Prelude.{◌≢◌}
 use Rattle.case_rules.specs.declared.equation.Equation.{Equation}
 use Rattle.case_system.specs.Facts.{HasBareFacts}
 use Rattle.case_system.proofs.BeingCleared.{strip_same, strip_changed}
