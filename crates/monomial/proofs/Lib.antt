@@ -1,5 +1,4 @@
 pub mod Steps
-pub mod SmallKeys
 pub mod Total
 pub mod Exponents
 pub mod Lower

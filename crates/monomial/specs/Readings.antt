@@ -1,5 +1,5 @@
 -- The powers that are left to read, and those of a stored form.
-use Rattle.std.specs.Prelude.{ℕ, Option, None, Some, List, [], ◌∷◌, map, drop}
+use Rattle.std.specs.Prelude.{ℕ, List, map, drop}
 use Rattle.monomial.specs.declared.reading.PowersLeft.{PowersLeft}
 use Rattle.monomial.specs.declared.reading.Left.{Left}
 use Rattle.monomial.specs.declared.reading.Left.TheVariants.{Word, Few, Many}
@@ -21,8 +21,3 @@ left_powers p = left_of p.left
 abbrev pub form_powers : Form → List (ℕ × ℕ)
 form_powers (LaidOut layout word) = monomial_of layout.now word
 form_powers (Powers powers) = left_powers powers
-
--- a power that was taken, and those that are left behind it
-abbrev pub headed : Option (ℕ × ℕ) → PowersLeft → List (ℕ × ℕ)
-headed None left = []
-headed (Some p) left = p ∷ left_powers left

@@ -1,7 +1,7 @@
 //! Powers in one word each, and lists of at most eight of them.
 ghost use Rattle.std.specs.Prelude.{◌≡◌, ◌≢◌, ◌<◌, ◌≤◌, ◌/◌, ◌%◌, ℕ, ◌+◌, ◌-◌, List, [], ◌∷◌, ◌++◌, IfOk, OnOk, MatchOption, map, length, slice_index_or};
 ghost use Rattle.monomial.specs.Keys.{power_of};
-ghost use Rattle.std.specs.declared.option.Option.TheVariants.{None, Some};
+ghost use Rattle.std.specs.declared.option.Option.TheVariants.{Some};
 ghost use Rattle.monomial.specs.Monomials.{exponent, lowered, monomial_cmp, monomial_times, too_high, IsProductOf};
 
 use arrayvec::ArrayVec;
@@ -99,43 +99,35 @@ pub fn multiply_keys<const ROOM: usize>(
     requires room { length first.now + length second.now ≤ ROOM }
     ensures { MatchOption result (IsProductOf (map power_of first.now) (map power_of second.now) (map power_of product.new.items)) (λ v. too_high (monomial_times (map power_of first.now) (map power_of second.now)) ≡ Some v) }
 {
-    let mut first = first;
-    let mut second = second;
-    'both: while let Some((x, first_others)) = first.split_first() {
-        let Some((y, second_others)) = second.split_first() else {
-            push_keys(product, first);
-            return None;
-        };
+    let mut i = 0;
+    let mut j = 0;
+    'both: while i < first.len() && j < second.len() {
+        let x = key_at(first, i);
+        let y = key_at(second, j);
         if x.variable() < y.variable() {
-            product.push(*y);
-            second = second_others;
+            product.push(y);
+            j += 1;
         } else if y.variable() < x.variable() {
-            product.push(*x);
-            first = first_others;
+            product.push(x);
+            i += 1;
         } else {
-            let Some(key) = x.times(*y) else {
+            let Some(key) = x.times(y) else {
                 return Some(x.variable());
             };
             product.push(key);
-            first = first_others;
-            second = second_others;
+            i += 1;
+            j += 1;
         }
     }
-    push_keys(product, second);
-    None
-}
-
-// Appends keys, for which there is room.
-#[inline(always)]
-#[tactic(auto, using(crate::proofs::SmallKeys::small_keys))]
-fn push_keys<const ROOM: usize>(product: &mut ArrayVec<Key, ROOM>, keys: &[Key])
-    requires { length product.old.items + length keys.now ≤ ROOM }
-    ensures pushed { map power_of product.new.items ≡ map power_of product.old.items ++ map power_of keys.now }
-    ensures small { too_high (map power_of keys.now) ≡ None }
-{
-    for key in keys {
-        product.push(*key);
+    'left: while i < first.len() {
+        product.push(key_at(first, i));
+        i += 1;
     }
+    'right: while j < second.len() {
+        product.push(key_at(second, j));
+        j += 1;
+    }
+    None
 }
 
 /// The keys of a quotient: each exponent less that of the divisor, where that is more than nothing.

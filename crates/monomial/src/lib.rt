@@ -1,11 +1,11 @@
 //! Products of powers of variables, in the order of the greatest variable.
 #![tactic(auto)]
 
-ghost use Rattle.std.specs.Prelude.{◌≡◌, ◌<◌, ◌≤◌, ℕ, ◌+◌, List, [], ◌∷◌, ◌++◌, IfOk, OnOk, IfSome, MatchOption, MatchResult, IsTrue, ◌↔◌, length, slice_index_or};
+ghost use Rattle.std.specs.Prelude.{◌≡◌, ◌<◌, ◌≤◌, ℕ, ◌+◌, List, [], ◌∷◌, ◌++◌, IfOk, IfSome, MatchOption, MatchResult, IsTrue, ◌↔◌, length, slice_index_or};
 ghost use Rattle.std.specs.declared.option.Option.TheVariants.{None, Some};
 ghost use Rattle.monomial.specs.Monomials.{monomial_cmp, monomial_times, exponent, top, too_high, Divides, IsMonomial, IsProductOf, IsFaultOf, each_divides, lowered, without};
 ghost use Rattle.monomial.specs.Layouts.{monomial_of, FitsLayout, IsWordIn};
-ghost use Rattle.monomial.specs.Readings.{left_powers, form_powers, headed};
+ghost use Rattle.monomial.specs.Readings.{left_powers, form_powers};
 
 mod form;
 mod keys;
@@ -313,11 +313,13 @@ fn placed_word(monomial: &Monomial, layout: &Layout) -> Option<u128>
 pub(crate) fn exponent_in(powers: &Powers, var: u32) -> u32
     ensures { result ≡ exponent powers.now var }
 {
-    let mut left = powers.powers();
-    'powers: while let Some(power) = left.next() {
+    let mut i = 0;
+    'powers: while i < powers.len() {
+        let power = powers.power_at(i);
         if power.0 == var {
             return u32::from(power.1);
         }
+        i += 1;
     }
     0
 }
@@ -326,11 +328,13 @@ pub(crate) fn exponent_in(powers: &Powers, var: u32) -> u32
 fn divides_powers(divisor: &Powers, powers: &Powers) -> bool
     ensures { result ≡ each_divides divisor.now powers.now }
 {
-    let mut left = divisor.powers();
-    'powers: while let Some(power) = left.next() {
+    let mut i = 0;
+    'powers: while i < divisor.len() {
+        let power = divisor.power_at(i);
         if exponent_in(powers, power.0) < u32::from(power.1) {
             return false;
         }
+        i += 1;
     }
     true
 }
@@ -339,29 +343,33 @@ fn divides_powers(divisor: &Powers, powers: &Powers) -> bool
 fn other_powers(powers: &Powers, var: u32) -> Result<Powers, AllocError>
     ensures { IfOk result (λ v. v ≡ without var powers.now) }
 {
-    let mut others = Powers::new(powers.allocator());
-    let mut left = powers.powers();
-    'powers: while let Some(power) = left.next() {
+    let mut left = Powers::new(powers.allocator());
+    let mut i = 0;
+    'powers: while i < powers.len() {
+        let power = powers.power_at(i);
         if power.0 != var {
-            others.push(power)?;
+            left.push(power)?;
         }
+        i += 1;
     }
-    Ok(others)
+    Ok(left)
 }
 
 // The powers of a quotient: each exponent less that of the divisor, power by power.
 fn quotient(powers: &Powers, divisor: &Powers) -> Result<Powers, AllocError>
     ensures { IfOk result (λ v. v ≡ lowered powers.now divisor.now) }
 {
-    let mut lowered = Powers::new(powers.allocator());
-    let mut left = powers.powers();
-    'powers: while let Some(power) = left.next() {
+    let mut left = Powers::new(powers.allocator());
+    let mut i = 0;
+    'powers: while i < powers.len() {
+        let power = powers.power_at(i);
         let less = exponent_in(divisor, power.0);
         if less < u32::from(power.1) {
-            lowered.push((power.0, (u32::from(power.1) - less) as u16))?;
+            left.push((power.0, (u32::from(power.1) - less) as u16))?;
         }
+        i += 1;
     }
-    Ok(lowered)
+    Ok(left)
 }
 
 // The product of two lists of powers, of which one at least is stored as a list.
@@ -370,55 +378,40 @@ fn product(first: &Powers, second: &Powers) -> Result<Powers, MonoFault>
 {
     let alloc = first.allocator();
     let mut powers = Vec::with_capacity(alloc, first.len().saturating_add(second.len()))?;
-    let mut first_left = first.powers();
-    let mut second_left = second.powers();
-    let mut x = first_left.next();
-    let mut y = second_left.next();
-    'both: while let Some(p) = x {
-        let Some(q) = y else {
-            push_left(&mut powers, x, first_left)?;
-            return Ok(Powers::of_list(alloc, powers));
-        };
-        match p.0.cmp(&q.0) {
+    let mut i = 0;
+    let mut j = 0;
+    'both: while i < first.len() && j < second.len() {
+        let x = first.power_at(i);
+        let y = second.power_at(j);
+        match x.0.cmp(&y.0) {
             Ordering::Less => {
-                powers.push(small(q))?;
-                y = second_left.next();
+                powers.push(y)?;
+                j += 1;
             }
             Ordering::Equal => {
-                let sum = sum_of(p.1, q.1);
+                let sum = sum_of(x.1, y.1);
                 if sum > 65535 {
-                    return Err(MonoFault::Degree { var: p.0 });
+                    return Err(MonoFault::Degree { var: x.0 });
                 }
-                powers.push((p.0, sum as u16))?;
-                x = first_left.next();
-                y = second_left.next();
+                powers.push((x.0, sum as u16))?;
+                i += 1;
+                j += 1;
             }
             Ordering::Greater => {
-                powers.push(small(p))?;
-                x = first_left.next();
+                powers.push(x)?;
+                i += 1;
             }
         }
     }
-    push_left(&mut powers, y, second_left)?;
-    Ok(Powers::of_list(alloc, powers))
-}
-
-// Appends a power that was taken, and those that are left.
-fn push_left(
-    powers: &mut Vec<(u32, u16)>,
-    taken: Option<(u32, u16)>,
-    left: PowersLeft<'_>,
-) -> Result<(), AllocError>
-    ensures pushed { OnOk result (powers.new.items ≡ powers.old.items ++ headed taken left.entry) }
-    ensures small { OnOk result (too_high (headed taken left.entry) ≡ None) }
-{
-    let mut head = taken;
-    let mut left = left;
-    'powers: while let Some(power) = head {
-        powers.push(small(power))?;
-        head = left.next();
+    'left: while i < first.len() {
+        powers.push(first.power_at(i))?;
+        i += 1;
     }
-    Ok(())
+    'right: while j < second.len() {
+        powers.push(second.power_at(j))?;
+        j += 1;
+    }
+    Ok(Powers::of_list(alloc, powers))
 }
 
 // The sum of two exponents.

@@ -300,22 +300,15 @@ impl Powers {
     fn order_by_power(&self, other: &Powers) -> Ordering
         ensures { result ≡ monomial_cmp self.now other.now }
     {
-        let mut left = self.powers();
-        let mut right = other.powers();
-        'powers: while let Some(first) = left.next() {
-            let Some(second) = right.next() else {
-                return Ordering::Greater;
-            };
-            match first.cmp(&second) {
+        let mut i = 0;
+        'powers: while i < self.len() && i < other.len() {
+            match self.power_at(i).cmp(&other.power_at(i)) {
                 Ordering::Less => return Ordering::Less,
-                Ordering::Equal => {}
+                Ordering::Equal => i += 1,
                 Ordering::Greater => return Ordering::Greater,
             }
         }
-        match right.next() {
-            Some(_) => Ordering::Less,
-            None => Ordering::Equal,
-        }
+        self.len().cmp(&other.len())
     }
 }
 

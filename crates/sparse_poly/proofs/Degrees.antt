@@ -1,19 +1,20 @@
 -- The degree in a variable of a product is the sum of those of its factors, so that of a divisor is not above that of a polynomial.
-use Rattle.std.specs.Prelude.{◌≡◌, ◌≢◌, ◌<◌, ◌≤◌, ℕ, ◌+◌, ◌==◌, ◌⊎◌, true, false, if◌then◌else◌, max, pos, ◌+ℤ◌, ◌*ℤ◌, List, [], ◌∷◌, refl}
+use Rattle.std.specs.Prelude.{◌≡◌, ◌≢◌, ◌<◌, ◌≤◌, ℕ, zero, suc, ◌+◌, ◌==◌, ◌⊎◌, true, false, if◌then◌else◌, length, slice_index_or, max, pos, ◌+ℤ◌, ◌*ℤ◌, List, [], ◌∷◌, refl}
 use mathlib.Core.Logic.{inl, inr}
 use Rattle.std.proofs.Common.{arith, sym, ◌∙◌, ap, subst}
 use Rattle.std.proofs.lemmas.Bool.{cases_lt, true≢false}
 use Rattle.std.proofs.lemmas.Bool.Decides.{eqb_tells}
 use Rattle.std.specs.List.{AllByRecursion}
 use Rattle.std.specs.declared.cmp.Ordering.TheVariants.{Less}
-use Rattle.monomial.specs.Monomials.{exponent, monomial_cmp, monomial_times, IsMonomial, IsPowers}
-use Rattle.monomial.proofs.Exponents.{exponent-times}
+use Rattle.monomial.specs.Monomials.{exponent, monomial_cmp, monomial_times, IsBelow, IsMonomial, IsPowers}
+use Rattle.monomial.proofs.Exponents.{exponent_here, exponent_there, exponent-times}
 use Rattle.sparse_poly.specs.declared.Term.{Term}
 use Rattle.sparse_poly.specs.Polynomials.{is_of, coefficient, term_times, row, products, IsSum}
 use Rattle.sparse_poly.specs.Contributions.{IsFalling, IsPoly}
 use Rattle.sparse_poly.specs.Standing.{AllMonomials}
 use Rattle.sparse_poly.specs.Reads.{degree_in}
 use Rattle.sparse_poly.specs.Clearing.{DividesOpenly}
+use Rattle.sparse_poly.specs.Dividing.{IsAboveDegree}
 use Rattle.sparse_poly.proofs.Evaluation.{is_of-same, zero_plus, coefficient-append}
 use Rattle.sparse_poly.proofs.Same.{coefficient_leading}
 use Rattle.sparse_poly.proofs.OneQuotient.{nonzero_product, tail_under}
@@ -166,3 +167,33 @@ pub divisor_degree : (v : ℕ) (n p g : List Term) → IsPoly n → IsPoly p →
 divisor_degree v n [] g hn hp i j d = absurd (j refl)
 divisor_degree v n (t ∷ ts) [] hn hp i j d = absurd (hp.apart.0 (sym (coefficient_leading t ts hp.falling.0) ∙ d.product.sums t.monomial))
 divisor_degree v n (t ∷ ts) (x ∷ xs) hn hp i j d = degree_within v (x ∷ xs) n (t ∷ ts) d.poly hn d.product.sums (λ z. cc z) i
+
+-- the power at a place of a monomial
+own_exponent : (m : List (ℕ × ℕ)) (k : ℕ) → IsPowers m → k < length m → exponent m (slice_index_or m k (0, 0)).0 ≡ (slice_index_or m k (0, 0)).1
+own_exponent [] k h l = absurd (omega (arith, l))
+own_exponent (q ∷ qs) zero h l = exponent_here q qs q.0 refl
+own_exponent (q ∷ qs) (suc k) h l =
+    let lower : (slice_index_or qs k (0, 0)).0 < q.0 = below_at q.0 qs k h.1 (omega (arith, l)) in
+    exponent_there q qs (slice_index_or qs k (0, 0)).0 (λ e. omega (arith, lower, e)) ∙ own_exponent qs k h.2 (omega (arith, l))
+  where
+    below_at : (v : ℕ) (ps : List (ℕ × ℕ)) (k : ℕ) → IsBelow v ps → k < length ps → (slice_index_or ps k (0, 0)).0 < v
+    below_at v [] k h l = absurd (omega (arith, l))
+    below_at v (p ∷ ps) zero h l = h.0
+    below_at v (p ∷ ps) (suc k) h l = below_at v ps k h.1 (omega (arith, l))
+
+pub above_at : (m : List (ℕ × ℕ)) (p : List Term) (k : ℕ) → IsPowers m → k < length m → degree_in (slice_index_or m k (0, 0)).0 p < (slice_index_or m k (0, 0)).1 → IsAboveDegree m p
+above_at m p k h l d = record { variable = (slice_index_or m k (0, 0)).0; above = omega (arith, d, own_exponent m k h l) }
+
+-- an exponent at a place is not above the degree
+place_within : (v k : ℕ) (ts : List Term) (d : Term) → k < length ts → exponent (slice_index_or ts k d).monomial v ≤ degree_in v ts
+place_within v k [] d l = absurd (omega (arith, l))
+place_within v zero (t ∷ ts) d l = omega arith
+place_within v (suc k) (t ∷ ts) d l = let rest = place_within v k ts d (omega (arith, l)) in omega (arith, rest)
+
+-- where a term of a divisor has an exponent above the degree of a polynomial there is no quotient
+pub no_degree : (n p : List Term) (k : ℕ) (t : Term) → IsPoly n → IsPoly p → p ≢ [] → k < length n → t ≡ slice_index_or n k t → IsAboveDegree t.monomial p → (g : List Term) → DividesOpenly n p g → ⊥
+no_degree [] p k t hn hp j l s a g d = absurd (omega (arith, l))
+no_degree (u ∷ us) p k t hn hp j l s a g d =
+    let within = divisor_degree a.variable (u ∷ us) p g hn hp (λ z. cc z) j d in
+    let place = place_within a.variable k (u ∷ us) t l in
+    omega (arith, within, place, ap (λ (x : Term). exponent x.monomial a.variable) s, a.above)

@@ -1,11 +1,12 @@
--- What the division of polynomials is made of: a term over a term, and a row of products.
-use Rattle.std.specs.Prelude.{◌≡◌, ◌≤◌, ◌*ℤ◌, unsigned_abs, List}
+-- What the division of polynomials is made of: a term over a term, a row of products, and what shows early that nothing divides.
+use Rattle.std.specs.Prelude.{◌≡◌, ◌<◌, ◌≤◌, ℕ, ◌*ℤ◌, unsigned_abs, List}
 use Rattle.std.specs.List.{AllByRecursion}
 use Rattle.std.specs.declared.option.Option.TheVariants.{None}
-use Rattle.monomial.specs.Monomials.{monomial_times, too_high, IsMonomial}
+use Rattle.monomial.specs.Monomials.{exponent, monomial_times, too_high, IsMonomial}
 use Rattle.sparse_poly.specs.declared.Term.{Term}
 use Rattle.sparse_poly.specs.Polynomials.{row}
 use Rattle.sparse_poly.specs.Contributions.{max_coeff}
+use Rattle.sparse_poly.specs.Reads.{degree_in}
 
 -- t times d is r
 pub record IsTermOver (d r t : Term) : Type 0 where
@@ -21,3 +22,8 @@ Fits t u = (too_high (monomial_times t.monomial u.monomial) ≡ None) × (unsign
 pub record IsRow (t : Term) (us vs : List Term) : Type 0 where
   pub row : vs ≡ row t us
   pub fits : AllByRecursion (Fits t) us
+
+-- an exponent of a monomial is above the degree of a polynomial in its variable
+pub record IsAboveDegree (m : List (ℕ × ℕ)) (p : List Term) : Type 0 where
+  pub variable : ℕ
+  pub above : degree_in variable p < exponent m variable

@@ -1,5 +1,5 @@
 -- What a polynomial feeds to a hash function: equal polynomials feed the same.
-use Rattle.std.specs.Prelude.{◌≡◌, ℕ, List, ◌++◌, IsTrue, flat_map, take}
+use Rattle.std.specs.Prelude.{◌≡◌, ℕ, List, ◌++◌, IsTrue, flat_map}
 use Rattle.std.specs.Hash.{HashWrites, u16, u32, i128}
 use Rattle.std.specs.Ordering.{eq_by_cmp}
 use Rattle.std.specs.Cmp.{Equal-is}
@@ -17,9 +17,5 @@ powers_input ps = flat_map power_input ps
 abbrev pub terms_input : List Term → HashWrites
 terms_input ts = flat_map (λ (t : Term). i128 t.coeff ++ powers_input t.monomial) ts
 
--- the first four terms
-abbrev pub poly_input : List Term → HashWrites
-poly_input ts = terms_input (take 4 ts)
-
-pub poly_input-respects : (p q : List Term) → IsTrue (eq_by_cmp poly_cmp p q) → poly_input p ≡ poly_input q
-poly_input-respects p q e = ap poly_input (poly_cmp-IsAntisymmetric p q ((Equal-is (poly_cmp p q)).0 e))
+pub terms_input-respects : (p q : List Term) → IsTrue (eq_by_cmp poly_cmp p q) → terms_input p ≡ terms_input q
+terms_input-respects p q e = ap terms_input (poly_cmp-IsAntisymmetric p q ((Equal-is (poly_cmp p q)).0 e))

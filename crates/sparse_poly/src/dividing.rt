@@ -3,8 +3,9 @@ ghost use Rattle.std.specs.Prelude.{◌≡◌, ◌≢◌, false, ◌<◌, ◌≤
 ghost use Rattle.sparse_poly.specs.declared.Term.{Term};
 ghost use Rattle.sparse_poly.specs.Polynomials.{row, products, IsSum};
 ghost use Rattle.sparse_poly.specs.Contributions.{max_coeff, IsPoly};
+ghost use Rattle.sparse_poly.specs.Reads.{degree_in};
 ghost use Rattle.sparse_poly.specs.Clearing.{DividesOpenly, IsLight};
-ghost use Rattle.sparse_poly.specs.Dividing.{IsTermOver, IsRow};
+ghost use Rattle.sparse_poly.specs.Dividing.{IsTermOver, IsRow, IsAboveDegree};
 ghost use Rattle.sparse_poly.specs.Owing.{term, AreOwed, IsNextTerm};
 ghost use Rattle.std.specs.BinaryHeap.{heap_items};
 
@@ -138,6 +139,53 @@ fn last_divides(terms: &[Term], divisor: &[Term]) -> bool
         return true;
     };
     divides_term(lowest, last)
+}
+
+/// Whether each term of a divisor between its ends has no exponent above the degree of a polynomial in its variable. Where one has, no
+/// polynomial divides openly.
+pub fn degrees_divide(terms: &[Term], divisor: &[Term]) -> bool
+    requires poly { IsPoly terms.now }
+    requires divisor { IsPoly divisor.now }
+    ensures { result ≡ false → (g : List Term) → DividesOpenly divisor.now terms.now g → ⊥ }
+{
+    if terms.is_empty() {
+        return true;
+    }
+    let mut i = 1;
+    'inner: while i + 1 < divisor.len() {
+        if !is_within_degrees(terms, &divisor[i].monomial, &divisor[i - 1].monomial) {
+            return false;
+        }
+        i += 1;
+    }
+    true
+}
+
+// Whether no exponent of a monomial is above the degree of a polynomial in its variable, which is known of the exponents of another monomial.
+fn is_within_degrees(terms: &[Term], monomial: &Monomial, known: &Monomial) -> bool
+    ensures { result ≡ false → IsAboveDegree monomial.now terms.now }
+{
+    let mut i = 0;
+    'powers: while i < monomial.len() {
+        let (var, exp) = monomial.power_at(i);
+        if known.exponent(var) < u32::from(exp) && !has_exponent(terms, var, u32::from(exp)) {
+            return false;
+        }
+        i += 1;
+    }
+    true
+}
+
+// Whether a term has at least this exponent of a variable.
+fn has_exponent(terms: &[Term], var: u32, least: u32) -> bool
+    ensures { result ≡ false → 0 < least → degree_in var terms.now < least }
+{
+    for term in terms {
+        if term.monomial.exponent(var) >= least {
+            return true;
+        }
+    }
+    false
 }
 
 // Whether a term divides another.

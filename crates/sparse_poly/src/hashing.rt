@@ -1,5 +1,5 @@
 //! Polynomials as keys of hash maps.
-ghost use Rattle.std.specs.Prelude.{◌≡◌, fold, take};
+ghost use Rattle.std.specs.Prelude.{◌≡◌, fold};
 ghost use Rattle.sparse_poly.specs.Hashing.{powers_input, terms_input};
 
 use crate::{Poly, Term};
@@ -7,22 +7,15 @@ use monomial::Monomial;
 use std::hash::{Hash, Hasher};
 
 impl Hash for Poly {
-    ghost use Rattle.sparse_poly.specs.Hashing.{poly_input, poly_input-respects};
+    ghost use Rattle.sparse_poly.specs.Hashing.{terms_input, terms_input-respects};
 
-    ghost hash_input = { poly_input };
+    ghost hash_input = { terms_input };
 
-    ghost respects_eq = { poly_input-respects };
+    ghost respects_eq = { terms_input-respects };
 
     fn hash<H: Hasher>(&self, state: &mut H) {
-        hash_terms(first_terms(self.terms()), state);
+        hash_terms(self.terms(), state);
     }
-}
-
-// The first four terms, which tell nearly all polynomials of a run apart.
-fn first_terms(terms: &[Term]) -> &[Term]
-    ensures { result.now ≡ take 4 terms.now }
-{
-    if terms.len() > 4 { &terms[..4] } else { terms }
 }
 
 // Each coefficient, and the powers of its monomial.

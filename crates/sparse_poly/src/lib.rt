@@ -35,7 +35,7 @@ mod stripping;
 mod weighing;
 
 pub use clearing::is_in_form;
-use dividing::{ends_divide, quotient_by};
+use dividing::{degrees_divide, ends_divide, quotient_by};
 use falling::is_polynomial;
 pub use laws::{
     clear_law, clearing_product_law, coefficients_law, combined_law, one_clearing_law, order_law,
@@ -292,7 +292,10 @@ impl Poly {
     {
         let whole = self.terms();
         let divisor = n.terms();
-        if !ends_divide(whole, divisor) || !values_divide(whole, divisor) {
+        if !ends_divide(whole, divisor)
+            || !degrees_divide(whole, divisor)
+            || !values_divide(whole, divisor)
+        {
             return Ok(None);
         }
         let alloc = self.terms.allocator();

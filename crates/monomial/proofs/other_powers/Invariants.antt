@@ -1,10 +1,12 @@
-use Rattle.std.proofs.Common.{◌≡◌, ◌++◌, length}
+use Rattle.std.proofs.Common.{◌≡◌, ◌≤◌, ◌-◌, drop, ◌++◌, length}
 use Rattle.monomial.specs.Monomials.{without}
-use Rattle.monomial.specs.Readings.{left_powers}
 use Rattle.monomial.proofs.other_powers.Given as goal
 
 abbrev pub invariant-powers : goal.invariant-powers
-invariant-powers l = without l.var l.powers ≡ l.others ++ without l.var (left_powers l.left)
+invariant-powers l = record {
+  inside : l.i ≤ length l.powers;
+  same : without l.var l.powers ≡ l.left ++ without l.var (drop l.i l.powers);
+}
 
 abbrev pub decreases-powers : goal.decreases-powers
-decreases-powers l = length (left_powers l.left)
+decreases-powers l = length l.powers - l.i
